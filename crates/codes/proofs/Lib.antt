@@ -1,0 +1,4 @@
+pub mod Tests
+pub mod Ones
+pub mod SlotWords
+pub mod SlotReading

@@ -1,0 +1,4 @@
+pub mod Order
+pub mod SlotWord
+pub mod Hamming
+pub mod Field

@@ -1,0 +1,6 @@
+pub mod Xor
+pub mod Runs
+pub mod Division
+pub mod Check
+pub mod Linear
+pub mod Register
