@@ -10,18 +10,22 @@ use lib.Dec.{T, eqb, ltb, eqb→eq}
 use borrow.Author.Tests.{lt-ltb, le-ltb, eq-eqb, ne-eqb}
 use Rattle.codes.specs.Order.{every}
 
-module _ {A : Type 0} (a b : ℕ) (x y : A) where
-  pub cond-eq : a ≡ b → cond (eqb a b) x y ≡ x
-  cond-eq h = ap (λ (t : Bool). cond t x y) (eq-eqb a b h)
+-- a choice between two numbers
+abbrev pub choose : Bool → ℕ → ℕ → ℕ
+choose t x y = cond t x y
 
-  pub cond-ne : (a ≡ b → ⊥) → cond (eqb a b) x y ≡ y
-  cond-ne h = ap (λ (t : Bool). cond t x y) (ne-eqb a b h)
+module _ (a b x y : ℕ) where
+  pub cond-eq : a ≡ b → choose (eqb a b) x y ≡ x
+  cond-eq h = ap (λ (t : Bool). choose t x y) (eq-eqb a b h)
 
-  pub cond-lt : a < b → cond (ltb a b) x y ≡ x
-  cond-lt h = ap (λ (t : Bool). cond t x y) (lt-ltb a b h)
+  pub cond-ne : (a ≡ b → ⊥) → choose (eqb a b) x y ≡ y
+  cond-ne h = ap (λ (t : Bool). choose t x y) (ne-eqb a b h)
 
-  pub cond-ge : b ≤ a → cond (ltb a b) x y ≡ y
-  cond-ge h = ap (λ (t : Bool). cond t x y) (le-ltb a b h)
+  pub cond-lt : a < b → choose (ltb a b) x y ≡ x
+  cond-lt h = ap (λ (t : Bool). choose t x y) (lt-ltb a b h)
+
+  pub cond-ge : b ≤ a → choose (ltb a b) x y ≡ y
+  cond-ge h = ap (λ (t : Bool). choose t x y) (le-ltb a b h)
 
 pub not-true : (t : Bool) → (t ≡ true → ⊥) → t ≡ false
 not-true true h = absurd (h refl)

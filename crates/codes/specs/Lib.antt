@@ -2,3 +2,7 @@ pub mod Order
 pub mod SlotWord
 pub mod Hamming
 pub mod Field
+pub mod Words
+pub mod Checks
+pub mod CheckClaims
+pub mod CheckExamples

@@ -11,7 +11,7 @@ use lib.Bits.{bitXor, xor-self, xor-zero-r}
 use Rattle.polynomials.specs.Bits.{digits, zeros, followed, number}
 use Rattle.polynomials.specs.Remainder.{reduce, divide, remainder, check, coded}
 use Rattle.polynomials.proofs.Xor.{xor-shl}
-use Rattle.polynomials.proofs.Runs.{Bits, zeros-bits, digits-bits, followed-bits, number-from, number-lt, number-one, number-whole}
+use Rattle.polynomials.proofs.Runs.{Bits, zeros-bits, digits-bits, followed-bits, followed-first, followed-rest, number-from, number-lt, number-one, number-whole}
 use Rattle.polynomials.proofs.Division.{divide-append, divide-ext, divide-followed, divide-lt, divide-split, divide-xor, divide-zero, reduce-scale, remainder-short, times-small}
 
 module _ (n g : ℕ) where
@@ -37,6 +37,18 @@ module _ (n g : ℕ) where
   pub check-lt : g / 2 ^ n ≡ 1 → (u : ℕ → ℕ) → Bits u → (k : ℕ) → check n g u k < 2 ^ n
   unfolding check
   check-lt hg u b k = divide-lt n g hg 0 (pow-pos n) (followed k u zeros) (followed-bits k u zeros b zeros-bits) (k + n)
+
+  pub coded-first : (k : ℕ) (u : ℕ → ℕ) (p : ℕ) → p < k → coded n g k u p ≡ u p
+  unfolding coded
+  coded-first k u p h = followed-first k u (digits n (check n g u k)) p h
+
+  pub coded-rest : (k : ℕ) (u : ℕ → ℕ) (p : ℕ) → k ≤ p → coded n g k u p ≡ digits n (check n g u k) (p - k)
+  unfolding coded
+  coded-rest k u p h = followed-rest k u (digits n (check n g u k)) p h
+
+  pub coded-bits : (k : ℕ) (u : ℕ → ℕ) → Bits u → Bits (coded n g k u)
+  unfolding coded
+  coded-bits k u b = followed-bits k u (digits n (check n g u k)) b (digits-bits n (check n g u k))
 
   -- data followed by its check has remainder 0
   pub codeword : g / 2 ^ n ≡ 1 → (u : ℕ → ℕ) → Bits u → (k : ℕ) → remainder n g (coded n g k u) (k + n) ≡ 0

@@ -4,3 +4,4 @@ pub mod Division
 pub mod Check
 pub mod Linear
 pub mod Register
+pub mod Products
