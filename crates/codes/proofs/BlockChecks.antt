@@ -8,8 +8,8 @@ use native.Mathlib.Omega.{arith}
 use borrow.Author.Tests.{eq-eqb}
 use lib.Dec.{eqb, lit<}
 use lib.ListN.{length, drop, getD}
-use Rattle.polynomials.specs.Bits.{octetBit, digits, followed, number}
-use Rattle.polynomials.proofs.Runs.{Bits, octetBit-bits, digits-bits, followed-bits, number-append, number-part, octet-at}
+use Rattle.polynomials.specs.Bits.{Bits, octetBit, digits, followed, number}
+use Rattle.polynomials.proofs.Runs.{octetBit-bits, digits-bits, followed-bits, number-append, number-part, octet-at}
 use Rattle.codes.specs.Checks.{blockGenerator, blockCheck, blockGood}
 use Rattle.codes.proofs.Masked.{masked-lt}
 use Rattle.codes.proofs.Ends.{enough}

@@ -10,11 +10,12 @@ use native.Mathlib.Decide.{decLt}
 use lib.Dec.{eqb, lit<, lit≤}
 use lib.ListN.{length, getD, replicate}
 use borrow.Author.Tests.{eq-eqb}
-use Rattle.polynomials.specs.Bits.{zeros, octetBit, followed, octets}
-use Rattle.polynomials.proofs.Runs.{Bits, octetBit-bits, octetBit-octets, octets-ext, octets-octetBit, followed-bits, followed-first, followed-rest, zeros-bits}
+use Rattle.polynomials.specs.Bits.{Bits, zeros, octetBit, followed, octets}
+use Rattle.polynomials.proofs.Runs.{octetBit-bits, octetBit-octets, octets-ext, octets-octetBit, followed-bits, followed-first, followed-rest, zeros-bits}
 use Rattle.codes.specs.Order.{firstFailed, every}
 use Rattle.codes.specs.Hamming.{syndrome, errors}
-use Rattle.codes.specs.Field.{sentAt, plainAt, information, product, plain, sent, writtenField, received, correctedField, rowsGood, columnsGood, reservedClear, matrixNumber, infoBit, infoOctets, fieldNumber, readField, Correctable}
+use Rattle.codes.specs.Field.{sentAt, plainAt, information, product, plain, sent, writtenField, received, correctedField, rowsGood, columnsGood, reservedClear, matrixTests, infoBit, infoOctets, fieldNumber, readField, Correctable}
+use Rattle.codes.specs.Words.{matrixNumber}
 use Rattle.codes.specs.declared.block_field.BlockField.{BlockField}
 use Rattle.codes.proofs.Tests.{all-eq, every-ext, every-true}
 use Rattle.codes.proofs.Errors.{errors-none}
@@ -102,7 +103,7 @@ module _ (m v : ℕ → ℕ → ℕ) (same : (r c : ℕ) → r < 13 → c < 15 �
   reserved-ext = every-ext 3 (λ c. eqb (m 0 c) 0) (λ c. eqb (v 0 c) 0) (λ c h. ap (λ (x : ℕ). eqb x 0) (same 0 c (lit< tt) (omega arith)))
 
   pub number-ext : matrixNumber m ≡ matrixNumber v
-  unfolding matrixNumber firstFailed
+  unfolding matrixNumber matrixTests firstFailed
   number-ext =
       ap₂ (λ (x y : Bool). cond x (cond y (cond (reservedClear m) 0 7) 6) 6) rows-ext columns-ext
       ∙ ap (λ (z : Bool). cond (rowsGood v) (cond (columnsGood v) (cond z 0 7) 6) 6) reserved-ext
@@ -113,7 +114,7 @@ module _ (m v : ℕ → ℕ → ℕ) (same : (r c : ℕ) → r < 13 → c < 15 �
 
 -- the number of a matrix whose rows and columns are codewords
 number-good : (m : ℕ → ℕ → ℕ) → ((r : ℕ) → syndrome (m r) 15 ≡ 0) → ((c : ℕ) → syndrome (λ r. m r c) 13 ≡ 0) → ((c : ℕ) → c < 3 → m 0 c ≡ 0) → matrixNumber m ≡ 0
-unfolding matrixNumber firstFailed rowsGood columnsGood reservedClear
+unfolding matrixNumber matrixTests firstFailed rowsGood columnsGood reservedClear
 number-good m rows columns clear =
     ap₂ (λ (x y : Bool). cond x (cond y (cond (reservedClear m) 0 7) 6) 6)
     (every-true 13 (λ r. eqb (syndrome (m r) 15) 0) (λ r h. eq-eqb (syndrome (m r) 15) 0 (rows r)))
@@ -159,7 +160,7 @@ module _ (os : List ℕ) where
 -- the field of 12 octets, received in 25 octets so that at most one of its 15 columns holds more than one wrong bit, reads as those octets
 pub corrects-field : (os g : List ℕ) → length os ≡ 12 → ((j : ℕ) → getD os j 0 < 256) → length g ≡ 25 → Correctable (writtenField os) g
     → readField g ≡ record { number = 0; info = os }
-unfolding readField fieldNumber
+unfolding readField fieldNumber firstFailed matrixNumber
 corrects-field os g size small fits few = ap₂ made number (ap₂ (λ (n : ℕ) (xs : List ℕ). cond (eqb n 0) xs (replicate 12 0)) number (info-right os g few size small))
   where
     made : ℕ → List ℕ → BlockField

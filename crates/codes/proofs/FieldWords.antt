@@ -12,13 +12,13 @@ use lib.Dec.{T, eqb, eqb→eq}
 use lib.Bits.{bitOr}
 use lib.Pow.{shr-shr, mod-pow-add, field, mod-mod-pow, pow-mono}
 use lib.ListN.{length, getD, replicate}
-use Rattle.polynomials.specs.Bits.{bit, digits, number, tabulate}
+use Rattle.polynomials.specs.Bits.{Bits, bit, digits, number, tabulate}
 use Rattle.polynomials.proofs.Xor.{bit-lt, bit-zero}
-use Rattle.polynomials.proofs.Runs.{Bits, digits-number, getD-tabulate, number-append, number-digits, number-ext, number-lt, number-part}
+use Rattle.polynomials.proofs.Runs.{digits-number, getD-tabulate, number-append, number-digits, number-ext, number-lt, number-part}
 use Rattle.codes.specs.Order.{firstFailed, every}
 use Rattle.codes.specs.Hamming.{syndrome, corrected}
-use Rattle.codes.specs.Field.{received, columnsCorrected, rowsCorrected, correctedField, rowsGood, columnsGood, reservedClear, matrixNumber, infoBit, infoOctets, fieldNumber, readField}
-use Rattle.codes.specs.Words.{cell, column, Sliced, ColumnsRight, RowsRight}
+use Rattle.codes.specs.Field.{received, columnsCorrected, rowsCorrected, correctedField, rowsGood, columnsGood, reservedClear, matrixTests, infoBit, infoOctets, fieldNumber, readField}
+use Rattle.codes.specs.Words.{cell, column, matrixNumber, Sliced, ColumnsRight, RowsRight}
 use Rattle.codes.specs.declared.block_field.BlockField.{BlockField}
 use Rattle.codes.proofs.Tests.{choose, every-at, every-true, not-true, cond-ne}
 use Rattle.codes.proofs.HammingWords.{corrected-ext}
@@ -81,7 +81,7 @@ columns-test m a b c d s = go (ℕ-discrete (some a b c d % 2 ^ 15) 0)
 
 module _ (m : List ℕ) (rows : (r : ℕ) → r < 13 → syndrome (cell m r) 15 ≡ 0) where
   by-columns : matrixNumber (cell m) ≡ cond (columnsGood (cell m)) (cond (reservedClear (cell m)) 0 7) 6
-  unfolding matrixNumber firstFailed rowsGood
+  unfolding matrixNumber matrixTests firstFailed rowsGood
   by-columns = ap (λ (t : Bool). cond t (cond (columnsGood (cell m)) (cond (reservedClear (cell m)) 0 7) 6) 6)
       (every-true 13 (λ r. eqb (syndrome (cell m r) 15) 0) (λ r h. eq-eqb (syndrome (cell m r) 15) 0 (rows r h)))
 
@@ -195,7 +195,7 @@ module _ (f m₁ m₂ : List ℕ) (a : ColumnsRight (fieldRows f) m₁) (b : Row
 
   module _ (n : ℕ) (fits : length f ≡ 25) (e : n ≡ matrixNumber (cell m₂)) where
     number-read : n ≡ fieldNumber f
-    unfolding fieldNumber
+    unfolding fieldNumber firstFailed matrixNumber
     number-read = e ∙ matrix-ext (cell m₂) (correctedField f) cell-read ∙ sym (ap (λ (t : Bool). cond t (matrixNumber (correctedField f)) 1) (eq-eqb (length f) 25 fits))
 
     made : ℕ → List ℕ → BlockField
@@ -215,7 +215,7 @@ module _ (f m₁ m₂ : List ℕ) (a : ColumnsRight (fieldRows f) m₁) (b : Row
 
 -- a field of another size
 pub read-size : (f : List ℕ) → (length f ≡ 25 → ⊥) → record { number = 1; info = replicate 12 0 } ≡ readField f
-unfolding readField fieldNumber
+unfolding readField fieldNumber firstFailed matrixNumber
 read-size f d = ap₂ made (sym one) (sym (ap (λ (n : ℕ). cond (eqb n 0) (infoOctets (correctedField f)) (replicate 12 0)) one))
   where
     made : ℕ → List ℕ → BlockField

@@ -7,9 +7,8 @@ use native.Mathlib.Omega.{arith}
 use native.Mathlib.Decide.{ℕ-discrete, decLt}
 use lib.Dec.{T, eqb, lit<}
 use lib.Bits.{bitXor, xor-zero-r, xor-lt}
-use Rattle.polynomials.specs.Bits.{zeros}
+use Rattle.polynomials.specs.Bits.{Bits, zeros}
 use Rattle.polynomials.specs.Remainder.{reduce, divide}
-use Rattle.polynomials.proofs.Runs.{Bits}
 use Rattle.polynomials.proofs.Division.{divide-append, divide-ext, divide-lt, divide-zero, remainder-xor}
 use Rattle.codes.specs.Order.{every}
 use Rattle.codes.specs.Hamming.{hammingGenerator, syndrome, power, corrected, errors}

@@ -16,5 +16,5 @@ pub mod Ends
 pub mod HeaderChecks
 pub mod BlockChecks
 pub mod MessageChecks
-pub mod CheckClaims
-pub mod CheckExamples
+pub mod Claims
+pub mod Examples

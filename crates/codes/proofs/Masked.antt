@@ -6,9 +6,9 @@ use native.Mathlib.Nat.{zero-add}
 use native.Mathlib.Omega.{arith}
 use lib.Pow.{shl-shr, ones-lt}
 use lib.Bits.{bitXor, xor-lt}
-use Rattle.polynomials.specs.Bits.{digits, zeros, followed, number}
+use Rattle.polynomials.specs.Bits.{Bits, digits, zeros, followed, number}
 use Rattle.polynomials.specs.Remainder.{divide, check}
-use Rattle.polynomials.proofs.Runs.{Bits, digits-bits, followed-bits, followed-first, followed-behind, number-ext, number-digits}
+use Rattle.polynomials.proofs.Runs.{digits-bits, followed-bits, followed-first, followed-behind, number-ext, number-digits}
 use Rattle.polynomials.proofs.Check.{check-ext, check-lt, check-more, check-scale}
 use Rattle.codes.specs.Checks.{inverted}
 

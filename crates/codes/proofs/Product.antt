@@ -3,7 +3,7 @@
 use mathlib.Core.Path.{_≡_, refl, ap, _∙_}
 use Prim.Native.Nat.{ℕ, _+_, _≤_, _<_}
 use lib.Dec.{lit≤}
-use Rattle.polynomials.proofs.Runs.{Bits}
+use Rattle.polynomials.specs.Bits.{Bits}
 use Rattle.polynomials.proofs.Check.{codeword, coded-bits, coded-first}
 use Rattle.polynomials.proofs.Products.{coded-rows}
 use Rattle.codes.specs.Hamming.{hammingGenerator, syndrome, withParity, corrected, errors}

@@ -8,10 +8,9 @@ use native.Mathlib.Numerals.{add-one}
 use lib.Dec.{T, eqb, lit<}
 use lib.Bits.{bitXor, bitOr, or-shr, or-mod, xor-comm, xor-zero-r}
 use lib.ListN.{getD}
-use Rattle.polynomials.specs.Bits.{bit, zeros}
+use Rattle.polynomials.specs.Bits.{Bits, bit, zeros}
 use Rattle.polynomials.specs.Remainder.{reduce, divide}
 use Rattle.polynomials.proofs.Xor.{bit-lt, bit-xor, bit-zero}
-use Rattle.polynomials.proofs.Runs.{Bits}
 use Rattle.polynomials.proofs.Division.{divide-lt}
 use Rattle.codes.specs.Order.{every}
 use Rattle.codes.specs.Hamming.{hammingGenerator, syndrome, power, corrected}

@@ -71,9 +71,9 @@ columnsGood m = every 15 (λ c. eqb (syndrome (λ r. m r c) 13) 0)
 unfoldable pub reservedClear : (ℕ → ℕ → ℕ) → Bool
 reservedClear m = every 3 (λ c. eqb (m 0 c) 0)
 
--- the number for a corrected matrix
-unfoldable pub matrixNumber : (ℕ → ℕ → ℕ) → ℕ
-matrixNumber m = firstFailed ((rowsGood m, 6) ∷ (columnsGood m, 6) ∷ (reservedClear m, 7) ∷ [])
+-- the tests of a corrected matrix
+unfoldable pub matrixTests : (ℕ → ℕ → ℕ) → List (Bool × ℕ)
+matrixTests m = (rowsGood m, 6) ∷ (columnsGood m, 6) ∷ (reservedClear m, 7) ∷ []
 
 -- information bit i, and the 12 octets of information
 unfoldable pub infoBit : (ℕ → ℕ → ℕ) → ℕ → ℕ
@@ -82,9 +82,9 @@ infoBit m i = m ((i + 3) / 11) ((i + 3) % 11)
 unfoldable pub infoOctets : (ℕ → ℕ → ℕ) → List ℕ
 infoOctets m = octets 12 (infoBit m)
 
--- the number of a field: 1 where it is not of 25 octets, else that of its corrected matrix
+-- the number of a field
 unfoldable pub fieldNumber : List ℕ → ℕ
-fieldNumber f = cond (eqb (length f) 25) (matrixNumber (correctedField f)) 1
+fieldNumber f = firstFailed ((eqb (length f) 25, 1) ∷ matrixTests (correctedField f))
 
 -- what a field reads as: its number and information, zeros where it is refused
 unfoldable pub readField : List ℕ → BlockField

@@ -4,5 +4,5 @@ pub mod Hamming
 pub mod Field
 pub mod Words
 pub mod Checks
-pub mod CheckClaims
-pub mod CheckExamples
+pub mod Claims
+pub mod Examples

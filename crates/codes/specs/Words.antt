@@ -6,7 +6,9 @@ use mathlib.Core.List.{List}
 use Prim.Native.Nat.{ℕ, _<_}
 use lib.ListN.{getD}
 use Rattle.polynomials.specs.Bits.{bit, digits}
-use Rattle.codes.specs.Hamming.{syndrome, corrected}
+use Rattle.codes.specs.Order.{firstFailed}
+use Rattle.codes.specs.Hamming.{corrected}
+use Rattle.codes.specs.Field.{matrixTests}
 
 -- row r, column c
 abbrev pub cell : List ℕ → ℕ → ℕ → ℕ
@@ -15,6 +17,10 @@ cell m r c = digits 15 (getD m r 0) c
 -- the bits at place k of all words, the first word's first
 abbrev pub column : List ℕ → ℕ → ℕ → ℕ
 column m k r = bit k (getD m r 0)
+
+-- the number for a matrix
+unfoldable pub matrixNumber : (ℕ → ℕ → ℕ) → ℕ
+matrixNumber m = firstFailed (matrixTests m)
 
 -- the words a, b, c, d hold the bits of f k at place k, a the lowest
 pub record Sliced (f : ℕ → ℕ) (a b c d : ℕ) : Type 0 where

@@ -4,8 +4,8 @@ ghost use Prim.Native.Nat.{ℕ, _+_, _*_, _<_};
 ghost use lib.ListN.{length, getD};
 ghost use Rattle.polynomials.specs.Bits.{bit, digits, octetBit, number, tabulate};
 ghost use Rattle.codes.specs.Hamming.{syndrome, withParity};
-ghost use Rattle.codes.specs.Field.{sentAt, plainAt, information, product, plain, sent, writtenField, received, columnsGood, matrixNumber, infoBit, infoOctets, readField};
-ghost use Rattle.codes.specs.Words.{cell, column, Sliced, ColumnsRight, RowRight, RowsRight};
+ghost use Rattle.codes.specs.Field.{sentAt, plainAt, information, product, plain, sent, writtenField, received, columnsGood, infoBit, infoOctets, readField};
+ghost use Rattle.codes.specs.Words.{cell, column, matrixNumber, Sliced, ColumnsRight, RowRight, RowsRight};
 
 // What is read from a block field: number 0 and the information, or the number of the refusal and zeros.
 pub struct BlockField {

@@ -5,3 +5,4 @@ pub mod Check
 pub mod Linear
 pub mod Register
 pub mod Products
+pub mod Claims

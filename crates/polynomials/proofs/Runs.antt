@@ -13,12 +13,8 @@ use lib.Pow.{high, low, shr-shr, mod-pow-add, pow-mono}
 use lib.ListN.{length, getD}
 use lib.Seq.{ext-getD}
 use borrow.Author.Tests.{lt-ltb, le-ltb}
-use Rattle.polynomials.specs.Bits.{bit, digits, octetBit, zeros, followed, number, tabulate, octets}
+use Rattle.polynomials.specs.Bits.{Bits, bit, digits, octetBit, zeros, followed, number, tabulate, octets}
 use Rattle.polynomials.proofs.Xor.{bit-lt}
-
--- every bit of u is 0 or 1
-abbrev pub Bits : (ℕ → ℕ) → Type 0
-Bits u = (p : ℕ) → u p < 2
 
 pub digits-bits : (n a : ℕ) → Bits (digits n a)
 digits-bits n a p = bit-lt (n - 1 - p) a

@@ -3,9 +3,13 @@
 -- Assumes nothing.
 use mathlib.Core.Bool.{cond}
 use mathlib.Core.List.{List, [], _∷_}
-use Prim.Native.Nat.{ℕ, zero, suc, _+_, _*_, _-_, _/_, _%_, _^_}
+use Prim.Native.Nat.{ℕ, zero, suc, _+_, _*_, _-_, _/_, _%_, _^_, _<_}
 use lib.Dec.{ltb}
 use lib.ListN.{getD}
+
+-- every value of u is a bit
+abbrev pub Bits : (ℕ → ℕ) → Type 0
+Bits u = (p : ℕ) → u p < 2
 
 -- binary digit i of a number
 abbrev pub bit : ℕ → ℕ → ℕ
