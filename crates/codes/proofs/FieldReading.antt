@@ -30,7 +30,7 @@ plain-sent = all-eq 196 (λ i. plainAt (sentAt i)) (λ i. i) tt
 pub sent-plain : (p : ℕ) → p < 196 → sentAt (plainAt p) ≡ p
 sent-plain = all-eq 196 (λ p. sentAt (plainAt p)) (λ p. p) tt
 
-plain-bits : (m : ℕ → ℕ → ℕ) → ((r : ℕ) → Bits (m r)) → Bits (plain m)
+pub plain-bits : (m : ℕ → ℕ → ℕ) → ((r : ℕ) → Bits (m r)) → Bits (plain m)
 unfolding plain
 plain-bits m b zero = lit< tt
 plain-bits m b (suc i) = b (i / 15) (i % 15)

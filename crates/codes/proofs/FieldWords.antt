@@ -4,17 +4,17 @@ use mathlib.Core.Path.{_≡_, refl, sym, ap, ap₂, subst, _∙_}
 use mathlib.Core.Bool.{Bool, true, false, cond}
 use mathlib.Core.List.{List, [], _∷_}
 use Prim.Native.Nat.{ℕ, zero, suc, _+_, _*_, _-_, _/_, _%_, _^_, _<_, _≤_}
-use native.Mathlib.Nat.{mod-one, lt-of-lt-of-le, le-of-lt}
+use native.Mathlib.Nat.{mod-one}
 use native.Mathlib.Omega.{arith}
 use native.Mathlib.Decide.{ℕ-discrete}
 use borrow.Author.Tests.{eq-eqb, ne-eqb, eqb-true}
 use lib.Dec.{T, eqb, eqb→eq}
 use lib.Bits.{bitOr}
-use lib.Pow.{shr-shr, mod-pow-add, field, mod-mod-pow, pow-mono}
+use lib.Pow.{shr-shr, mod-pow-add, field, mod-mod-pow}
 use lib.ListN.{length, getD, replicate}
 use Rattle.polynomials.specs.Bits.{Bits, bit, digits, number, tabulate}
 use Rattle.polynomials.proofs.Xor.{bit-lt, bit-zero}
-use Rattle.polynomials.proofs.Runs.{digits-number, getD-tabulate, number-append, number-digits, number-ext, number-lt, number-part}
+use Rattle.polynomials.proofs.Runs.{digits-number, getD-tabulate, number-append, number-digits, number-ext, number-part}
 use Rattle.codes.specs.Order.{firstFailed, every}
 use Rattle.codes.specs.Hamming.{syndrome, corrected}
 use Rattle.codes.specs.Field.{received, columnsCorrected, rowsCorrected, correctedField, rowsGood, columnsGood, reservedClear, matrixTests, infoBit, infoOctets, fieldNumber, readField}
@@ -175,10 +175,6 @@ cell-received f r c hr hc =
   where
     start : 0 + c ≡ c
     start = omega arith
-
--- there is room for one bit more
-pub row-room : (f : List ℕ) (r c x : ℕ) → c < 15 → x ≡ number (received f r) 0 c → x * 2 + 1 < 2 ^ 16
-row-room f r c x h e = let l : x < 2 ^ 15 = subst (λ (y : ℕ). y < 2 ^ 15) (sym e) (lt-of-lt-of-le (number-lt (received f r) (received-bits f r) 0 c) (pow-mono (le-of-lt h))) in omega arith
 
 module _ (f m₁ m₂ : List ℕ) (a : ColumnsRight (fieldRows f) m₁) (b : RowsRight m₁ m₂) where
   cell-columns : (r c : ℕ) → r < 13 → c < 15 → cell m₁ r c ≡ columnsCorrected (received f) r c

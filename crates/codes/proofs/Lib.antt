@@ -9,7 +9,9 @@ pub mod FieldReading
 pub mod Slices
 pub mod RowWords
 pub mod Replaced
+pub mod Filling
 pub mod FieldWords
+pub mod FieldWriting
 pub mod Pairs
 pub mod Masked
 pub mod Ends

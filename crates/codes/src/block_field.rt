@@ -2,10 +2,10 @@
 ghost use mathlib.Core.Path.{_≡_};
 ghost use Prim.Native.Nat.{ℕ, _+_, _*_, _<_};
 ghost use lib.ListN.{length, getD};
-ghost use Rattle.polynomials.specs.Bits.{bit, digits, octetBit, number, tabulate};
+ghost use Rattle.polynomials.specs.Bits.{digits, octetBit, zeros, followed, number, tabulate};
 ghost use Rattle.codes.specs.Hamming.{syndrome, withParity};
-ghost use Rattle.codes.specs.Field.{sentAt, plainAt, information, product, plain, sent, writtenField, received, columnsGood, infoBit, infoOctets, readField};
-ghost use Rattle.codes.specs.Words.{cell, column, matrixNumber, Sliced, ColumnsRight, RowRight, RowsRight};
+ghost use Rattle.codes.specs.Field.{information, product, plain, sent, writtenField, received, columnsGood, infoBit, infoOctets, readField};
+ghost use Rattle.codes.specs.Words.{cell, column, matrixNumber, Sliced, ColumnsRight, RowRight, RowsRight, dataRows, PlainBits, sentRun};
 
 // What is read from a block field: number 0 and the information, or the number of the refusal and zeros.
 pub struct BlockField {
@@ -155,6 +155,7 @@ fn info_octets(m: [u16; 13]) -> [u8; 12]
     ]
 }
 
+// An octet as a word of 16 bits.
 fn wide8(x: u8) -> u16
     ensures { λ r. ⌜ r ≡ x ⌝ }
 {
@@ -176,7 +177,7 @@ fn field_row(f: &[u8], r: usize) -> u16
 {
     let mut x: u16 = 0;
     for c in 0..15 {
-        x = x * 2 + field_bit(f, 181 * (1 + 15 * r + c) % 196);
+        x = 2 * x + field_bit(f, 181 * (1 + 15 * r + c) % 196);
     }
     x
 }
@@ -223,4 +224,117 @@ pub fn read(field: &[u8]) -> BlockField
     }
     let info = info_octets(m);
     BlockField { number: 0, info }
+}
+
+// ---- writing
+
+// Bit i of the 99 that rows 0 to 8 hold: R(2), R(1), R(0), which are 0, and then the information.
+fn data_bit(info: [u8; 12], i: usize) -> u16
+    requires { ⌜ i < 99 ⌝ }
+    ensures { λ r. ⌜ r ≡ followed 3 zeros (octetBit info) i ⌝ }
+{
+    if i < 3 {
+        return 0;
+    }
+    let j = i - 3;
+    (wide8(info[j / 8]) >> (7 - j % 8)) % 2
+}
+
+// The eleven data bits of row r.
+fn data_row(info: [u8; 12], r: usize) -> u16
+    requires { ⌜ r < 9 ⌝ }
+    ensures { λ x. ⌜ x ≡ number (information info r) 0 11 ⌝ }
+{
+    let mut x: u16 = 0;
+    for c in 0..11 {
+        x = 2 * x + data_bit(info, 11 * r + c);
+    }
+    x
+}
+
+// Eleven data bits with their four parity bits.
+fn coded_row(x: u16) -> u16
+    requires { ⌜ x < 2048 ⌝ }
+    ensures { λ w. ⌜ w ≡ number (withParity 11 (digits 11 x)) 0 15 ⌝ }
+{
+    let w = x * 16;
+    w ^ row_remainder(w)
+}
+
+// The nine rows of data with their parity, and four rows of zeros.
+fn data_rows(info: [u8; 12]) -> [u16; 13]
+    ensures { λ m. ⌜ m ≡ tabulate 13 (dataRows info) ⌝ }
+{
+    let mut m = [0u16; 13];
+    for r in 0..9 {
+        m[r] = coded_row(data_row(info, r));
+    }
+    m
+}
+
+// The whole matrix: the remainders of the columns are their parity.
+fn matrix(info: [u8; 12]) -> [u16; 13]
+    ensures { λ m. ⌜ ((r c : ℕ) → r < 13 → c < 15 → cell m r c ≡ product (information info) r c) ⌝ }
+{
+    let mut m = data_rows(info);
+    let s = column_remainders(m);
+    m[9] = s.d;
+    m[10] = s.c;
+    m[11] = s.b;
+    m[12] = s.a;
+    m
+}
+
+// The 196 bits of a matrix in plain order, an octet for each.
+fn plain_order(m: [u16; 13]) -> [u8; 196]
+    ensures { λ p. ⌜ ((i : ℕ) → i < 196 → getD p i 0 ≡ plain (cell m) i) ⌝ }
+{
+    let mut p = [0u8; 196];
+    for i in 0..195 {
+        p[1 + i] = ((m[i / 15] >> (14 - i % 15)) % 2) as u8;
+    }
+    p
+}
+
+// Bit q of the field: the 196 in their sent order, and four zeros.
+fn sent_bit(p: &[u8; 196], q: usize) -> u8
+    requires { ⌜ q < 200 ⌝ }
+    ensures { λ x. ⌜ x ≡ sentRun (now (p .entry)) q ⌝ }
+{
+    if q < 196 {
+        return p[13 * q % 196];
+    }
+    0
+}
+
+// Octet j of the field.
+fn sent_octet(p: &[u8; 196], j: usize) -> u8
+    requires { ⌜ (j < 25) × PlainBits (now p) ⌝ }
+    ensures { λ x. ⌜ x ≡ number (sentRun (now (p .entry))) (8 * j) 8 ⌝ }
+{
+    let mut x: u8 = 0;
+    for i in 0..8 {
+        x = 2 * x + sent_bit(p, 8 * j + i);
+    }
+    x
+}
+
+// The 25 octets of a plain order.
+fn sent_octets(p: &[u8; 196]) -> [u8; 25]
+    requires { ⌜ PlainBits (now p) ⌝ }
+    ensures { λ f. ⌜ f ≡ sent (λ i. getD (now (p .entry)) i 0) ⌝ }
+{
+    let mut f = [0u8; 25];
+    for j in 0..25 {
+        f[j] = sent_octet(p, j);
+    }
+    f
+}
+
+// The 25 octets of the block field for 12 octets of information.
+pub fn write(info: [u8; 12]) -> [u8; 25]
+    ensures { λ r. ⌜ r ≡ writtenField info ⌝ }
+{
+    let p = plain_order(matrix(info));
+    sent_octets(&p)
 }

@@ -4,8 +4,7 @@ use mathlib.Core.Path.{_≡_, refl, sym, ap, ap₂, subst, _∙_}
 use mathlib.Core.Bool.{Bool, true, false, cond}
 use mathlib.Core.List.{List, [], _∷_}
 use Prim.Native.Nat.{ℕ, zero, suc, _+_, _*_, _-_, _/_, _%_, _^_, _≤_, _<_}
-use native.Mathlib.Nat.{add-zero, add-suc, zero-add, mul-one, mul-assoc, mod-one, pow-suc, mod-eq-of-lt, mod-lt, zero-lt-suc, not-suc-le-zero, le-of-suc-le-suc}
-use native.Mathlib.Decide.{ℕ-discrete, decLt}
+use native.Mathlib.Nat.{add-zero, add-suc, zero-add, mul-one, mul-assoc, mul-comm, mod-one, pow-suc, mod-eq-of-lt, mod-lt, lt-of-lt-of-le, zero-lt-suc, not-suc-le-zero, le-of-suc-le-suc}
 use native.Mathlib.Omega.{arith}
 use native.Mathlib.Numerals.{add-one}
 use lib.Dec.{ltb, lit<}
@@ -128,6 +127,29 @@ number-whole n a h =
 
     one : a / 2 ^ 0 ≡ a
     one = omega arith
+
+-- a run behind another
+pub number-followed : (k l : ℕ) (u v : ℕ → ℕ) → number (followed k u v) 0 (k + l) ≡ number u 0 k * 2 ^ l + number v 0 l
+number-followed k l u v =
+    number-append (followed k u v) 0 k l
+    ∙ ap₂ (λ (x y : ℕ). x * 2 ^ l + y) (number-ext (followed k u v) u 0 0 k (λ i h. followed-first k u v (0 + i) (omega arith)))
+    (number-ext (followed k u v) v (0 + k) 0 l (λ i h. followed-rest k u v (0 + k + i) (omega arith) ∙ ap v (place i)))
+  where
+    place : (i : ℕ) → 0 + k + i - k ≡ 0 + i
+    place i = omega arith
+
+-- n bits are the digits of the number they make
+pub digits-whole : (n : ℕ) (u : ℕ → ℕ) → Bits u → (p : ℕ) → p < n → digits n (number u 0 n) p ≡ u p
+digits-whole n u b p h = digits-number n u b 0 p h ∙ ap u (zero-add p)
+
+-- one bit more behind those gathered
+pub number-more : (u : ℕ → ℕ) (at k x b : ℕ) → x ≡ number u at k → b ≡ u (at + k) → 2 * x + b ≡ number u at (k + 1)
+unfolding number
+number-more u at k x b e f = ap₂ _+_ (mul-comm 2 x ∙ ap (λ (y : ℕ). y * 2) e) f ∙ ap (number u at) (sym (add-one k))
+
+-- a number of fewer than n bits has room for one more
+pub number-room : (u : ℕ → ℕ) → Bits u → (at k n x : ℕ) → k < n → x ≡ number u at k → 2 * x + 1 < 2 ^ n
+number-room u h at k n x l e = lt-of-lt-of-le (omega (arith, number-lt u h at k, pow-suc 2 k)) (pow-mono l)
 
 -- ---- lists of values and octets
 

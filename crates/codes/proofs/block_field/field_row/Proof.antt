@@ -1,16 +1,15 @@
 -- `codes::block_field::field_row` meets its contract: x is the number of the first c bits of the row.
 -- Assumes nothing.
-use mathlib.Core.Path.{_≡_, refl, sym, ap, ap₂, subst, _∙_}
+use mathlib.Core.Path.{_≡_, refl, sym, ap, subst, _∙_}
 use Prim.Native.Nat.{ℕ, _+_, _*_, _-_, _≤_, _<_}
 use native.Mathlib.Nat.{zero-add}
-use native.Mathlib.Numerals.{add-one}
 use native.Mathlib.Omega.{arith}
 use lib.Dec.{lit≤}
 use borrow.Author.Needs.{needs}
 use Rattle.polynomials.specs.Bits.{number}
+use Rattle.polynomials.proofs.Runs.{number-more, number-room}
 use Rattle.codes.specs.Field.{received}
 use Rattle.codes.proofs.FieldReading.{received-bits}
-use Rattle.codes.proofs.FieldWords.{row-room}
 use Rattle.codes.proofs.block_field.field_row.Statement.{statement}
 use Rattle.codes.proofs.block_field.field_row.Tie as tie
 
@@ -28,7 +27,7 @@ mul-x : tie.Need-mul-x Inv-loop μ-loop
 mul-x c =
     let a = c .before .before .before .args in
     let l = c .before .loop in
-    omega (arith, row-room (a .f .now) (a .r) (l .c) (l .x) (c .loop-test .taken) (l .inv .1))
+    omega (arith, number-room (received (a .f .now) (a .r)) (received-bits (a .f .now) (a .r)) 0 (l .c) 15 (l .x) (c .loop-test .taken) (l .inv .1))
 
 mul-field-bit : tie.Need-mul-field-bit Inv-loop μ-loop
 mul-field-bit c = omega arith
@@ -51,7 +50,7 @@ add-x c =
     let a = c .before .before .before .before .args in
     let l = c .before .before .loop in
     let b : c .field-bit .result < 2 = subst (λ (y : ℕ). y < 2) (sym (c .field-bit .ensures)) (received-bits (a .f .now) (a .r) (l .c)) in
-    omega (arith, row-room (a .f .now) (a .r) (l .c) (l .x) (c .before .loop-test .taken) (l .inv .1))
+    omega (arith, number-room (received (a .f .now) (a .r)) (received-bits (a .f .now) (a .r)) 0 (l .c) 15 (l .x) (c .before .loop-test .taken) (l .inv .1))
 
 add-c : tie.Need-add-c Inv-loop μ-loop
 add-c c = omega arith
@@ -60,12 +59,12 @@ loop-less : tie.Need-loop-less Inv-loop μ-loop
 loop-less c = omega arith
 
 loop-again : tie.Need-loop-again Inv-loop μ-loop
-unfolding number received
+unfolding received
 loop-again c =
     let a = c .before .before .before .before .args in
     let l = c .before .before .loop in
     let w = received (a .f .now) (a .r) in
-    (omega arith, ap₂ (λ (x y : ℕ). x * 2 + y) (l .inv .1) (c .field-bit .ensures ∙ ap w (sym (zero-add (l .c)))) ∙ ap (number w 0) (sym (add-one (l .c))))
+    (omega arith, number-more w 0 (l .c) (l .x) (c .field-bit .result) (l .inv .1) (c .field-bit .ensures ∙ ap w (sym (zero-add (l .c)))))
 
 returns : tie.Need-returns Inv-loop μ-loop
 returns c =
