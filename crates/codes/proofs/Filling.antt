@@ -1,18 +1,15 @@
 -- Arrays filled from the front.
 -- Assumes nothing.
-use mathlib.Core.Path.{_≡_, refl, sym, ap, ap₂, subst, _∙_}
+use mathlib.Core.Path.{_≡_, refl, sym, subst, _∙_}
 use mathlib.Core.List.{List}
-use Prim.Native.Nat.{ℕ, zero, suc, _+_, _*_, _^_, _≤_, _<_}
-use native.Mathlib.Nat.{mul-comm, pow-suc, lt-of-lt-of-le}
-use native.Mathlib.Numerals.{add-one}
+use Prim.Native.Nat.{ℕ, zero, suc, _+_, _≤_, _<_}
 use native.Mathlib.Omega.{arith}
 use native.Mathlib.Decide.{decLt}
-use lib.Pow.{pow-mono}
 use lib.ListN.{length, getD, set, replicate, length-set, length-replicate}
 use lib.Seq.{getD-set-same, getD-set-other}
 use borrow.Author.Count.{below-more}
-use Rattle.polynomials.specs.Bits.{Bits, number, tabulate}
-use Rattle.polynomials.proofs.Runs.{number-lt, tabulated}
+use Rattle.polynomials.specs.Bits.{tabulate}
+use Rattle.polynomials.proofs.Runs.{tabulated}
 
 -- m has `size` elements: the first n are f 0, f 1, .., the others 0
 pub record Filled (size : ℕ) (f : ℕ → ℕ) (n : ℕ) (m : List ℕ) : Type 0 where

@@ -2,14 +2,13 @@
 -- Assumes nothing.
 use mathlib.Core.Path.{_≡_, sym, ap, subst, _∙_}
 use Prim.Native.Nat.{ℕ, _*_, _-_, _/_, _%_, _^_, _<_}
-use lib.Dec.{T, eqb}
+use lib.Dec.{eqb}
 use lib.Bits.{bitXor, xor-self}
 use Rattle.polynomials.specs.Bits.{Bits, bit, digits}
 use Rattle.polynomials.specs.Remainder.{reduce, divide}
 use Rattle.polynomials.proofs.Xor.{bit-xor}
 use Rattle.polynomials.proofs.Runs.{digits-bits}
 use Rattle.polynomials.proofs.Linear.{Linear, linear-shr, linear-mod, linear-shl, linear-then, linear-xor, linear-same}
-use Rattle.codes.specs.Order.{every}
 use Rattle.codes.specs.Hamming.{syndrome, power, corrected}
 use Rattle.codes.specs.Words.{RowRight}
 use Rattle.codes.proofs.Tests.{all-eq, all-eq₂, choose}
