@@ -1,9 +1,8 @@
 // Block fields, written and read. Position i of the plain order is bit 181 i mod 196 of the field, the first bit highest in octet 0.
 // Row r, column c of the matrix is plain position 1 + 15 r + c.
 ghost use Prim.Native.Nat.{_<_, _≤_};
-use crate::report;
-use crate::report::Tally;
 use codes::block_field;
+use report::Tally;
 
 // Positions in order: the first n of the octets.
 struct Places {

@@ -1,6 +1,5 @@
 // The checks of headers, blocks and messages.
-use crate::report;
-use crate::report::Tally;
+use report::Tally;
 
 fn wide(x: u16) -> u32 {
     x as u32

@@ -3,7 +3,6 @@
 // cases and the wrong ones. Words, octets and numbers of refusals are in hexadecimal, positions in decimal.
 mod block_fields;
 mod checks;
-mod report;
 mod slot_types;
 
 fn main() {

@@ -1,8 +1,7 @@
 // Slot types, written and read.
-use crate::report;
-use crate::report::Tally;
 use codes::slot_type;
 use codes::slot_type::SlotType;
+use report::Tally;
 
 // What a word reads as: its octet, or 256 times the number of its refusal.
 fn reading(word: u32) -> u32 {

@@ -1,4 +1,4 @@
-// The lines of the cases, and their count.
+// The lines of a program that runs worked examples, and their count.
 ghost use mathlib.Core.Path.{_≡_};
 ghost use Prim.Native.Nat.{_+_, _%_, _^_};
 
@@ -8,7 +8,10 @@ pub struct Tally {
     pub wrong: u32,
 }
 
-pub fn wide(octet: u8) -> u32 {
+// An octet as a number.
+pub fn wide(octet: u8) -> u32
+    ensures { λ r. ⌜ r ≡ octet ⌝ }
+{
     octet as u32
 }
 
@@ -54,7 +57,9 @@ pub fn name(subject: &[u8], text: &[u8]) {
 }
 
 // A case whose value is a number, in at least so many hexadecimal digits.
-pub fn number(t: Tally, digits: usize, value: u32, expected: u32) -> Tally {
+pub fn number(t: Tally, digits: usize, value: u32, expected: u32) -> Tally
+    ensures { λ r. ⌜ r .cases ≡ (t .cases + 1) % 2 ^ 32 ⌝ }
+{
     put_hex(value, digits);
     if value == expected {
         return right(t);
@@ -65,7 +70,9 @@ pub fn number(t: Tally, digits: usize, value: u32, expected: u32) -> Tally {
 }
 
 // A case whose value is yes or no, as 1 or 0.
-pub fn answer(t: Tally, value: bool, expected: bool) -> Tally {
+pub fn answer(t: Tally, value: bool, expected: bool) -> Tally
+    ensures { λ r. ⌜ r .cases ≡ (t .cases + 1) % 2 ^ 32 ⌝ }
+{
     number(t, 1, value as u32, expected as u32)
 }
 
@@ -87,7 +94,9 @@ fn put_run(decimal: bool, run: &[u8]) {
     }
 }
 
-fn run(t: Tally, decimal: bool, value: &[u8], expected: &[u8]) -> Tally {
+fn run(t: Tally, decimal: bool, value: &[u8], expected: &[u8]) -> Tally
+    ensures { λ r. ⌜ r .cases ≡ (t .cases + 1) % 2 ^ 32 ⌝ }
+{
     put_run(decimal, value);
     if check::same(value, expected) {
         return right(t);
@@ -98,12 +107,16 @@ fn run(t: Tally, decimal: bool, value: &[u8], expected: &[u8]) -> Tally {
 }
 
 // A case whose value is a run of octets.
-pub fn octets(t: Tally, value: &[u8], expected: &[u8]) -> Tally {
+pub fn octets(t: Tally, value: &[u8], expected: &[u8]) -> Tally
+    ensures { λ r. ⌜ r .cases ≡ (t .cases + 1) % 2 ^ 32 ⌝ }
+{
     run(t, false, value, expected)
 }
 
 // A case whose value is a run of positions.
-pub fn positions(t: Tally, value: &[u8], expected: &[u8]) -> Tally {
+pub fn positions(t: Tally, value: &[u8], expected: &[u8]) -> Tally
+    ensures { λ r. ⌜ r .cases ≡ (t .cases + 1) % 2 ^ 32 ⌝ }
+{
     run(t, true, value, expected)
 }
 

@@ -4,8 +4,8 @@ use Prim.Native.Nat.{_≤_, _-_}
 use mathlib.Core.Path.{_≡_}
 use borrow.Author.Needs.{needs}
 use lib.ListN.{length}
-use Rattle.vectors.proofs.report.put_run.Statement.{statement}
-use Rattle.vectors.proofs.report.put_run.Tie as tie
+use Rattle.report.proofs.put_run.Statement.{statement}
+use Rattle.report.proofs.put_run.Tie as tie
 
 abbrev Inv-loop : tie.InvT-loop
 Inv-loop decimal run i₀ i-end i = (i ≤ i-end) × (i-end ≡ length run)

@@ -1,0 +1,14 @@
+pub mod RunParts
+pub mod Variants
+pub mod DataTypes
+pub mod Reading
+pub mod Writing
+pub mod Numbers
+pub mod ReadingBack
+pub mod Rows
+pub mod BurstClaims
+pub mod DatagramNumbers
+pub mod DatagramWriting
+pub mod DatagramBack
+pub mod DatagramRows
+pub mod DatagramClaims

@@ -1,0 +1,52 @@
+-- What a reader of demand 2 wants of bursts, and when each number of document 01's table is given.
+-- Assumes nothing.
+use mathlib.Core.Path.{_≡_}
+use mathlib.Core.Bool.{true, false}
+use mathlib.Core.List.{List}
+use mathlib.Core.Logic.{_≢_, _⊎_, _↔_}
+use Prim.Native.Nat.{ℕ, _+_, _*_, _%_, _≤_, _<_}
+use lib.ListN.{length, getD}
+use Rattle.codes.specs.SlotWord.{slotWord, distance}
+use Rattle.codes.specs.Field.{writtenField, fieldNumber, Correctable}
+use Rattle.bursts.specs.Bursts.{kindOf, known, slotBits, fieldOf, readBurst, writtenBurst, writeBurst}
+use Rattle.bursts.specs.declared.burst.Sync.{Sync}
+
+-- the slot type of b is at most three bits from the codeword of d
+abbrev pub Near : List ℕ → ℕ → Type 0
+Near b d = (d < 256) × (distance (slotBits b) (slotWord d) ≤ 3)
+
+-- the size of a burst, and no codeword near
+abbrev pub Untyped : List ℕ → Type 0
+Untyped b = (length b ≡ 33) × ((d : ℕ) → Near b d → ⊥)
+
+-- a codeword near, whose data type is neither 6 nor 7
+abbrev pub OtherType : List ℕ → Type 0
+OtherType b = (length b ≡ 33) × (d : ℕ) × Near b d × (known (kindOf (d % 16)) ≡ false)
+
+-- a codeword near with data type 6 or 7, and a block field of number n
+abbrev pub FieldGives : ℕ → List ℕ → Type 0
+FieldGives n b = (length b ≡ 33) × (d : ℕ) × Near b d × (known (kindOf (d % 16)) ≡ true) × (fieldNumber (fieldOf b) ≡ n)
+
+pub record BurstClaims : Type 0 where
+  -- what is written reads back
+  pub reads-back : (colour type : ℕ) (info : List ℕ) (sync : Sync) → colour < 16 → known (kindOf type) ≡ true → length info ≡ 12
+      → ((j : ℕ) → getD info j 0 < 256)
+      → readBurst (writtenBurst colour type info sync) ≡ record { number = 0; colour = colour; datatype = type; info = info }
+  -- so does a burst with at most three wrong slot-type bits and a block field in which at most one column holds more than one wrong bit
+  pub corrects : (colour type : ℕ) (info b : List ℕ) → colour < 16 → known (kindOf type) ≡ true → length info ≡ 12
+      → ((j : ℕ) → getD info j 0 < 256)
+      → length b ≡ 33 → distance (slotBits b) (slotWord (16 * colour + type)) ≤ 3 → Correctable (writtenField info) (fieldOf b)
+      → readBurst b ≡ record { number = 0; colour = colour; datatype = type; info = info }
+  -- each number of reading is given exactly if its row is true, and there are no others
+  pub zero : (b : List ℕ) → (readBurst b .number ≡ 0) ↔ FieldGives 0 b
+  pub one : (b : List ℕ) → (readBurst b .number ≡ 1) ↔ (length b ≢ 33)
+  pub four : (b : List ℕ) → (readBurst b .number ≡ 4) ↔ Untyped b
+  pub five : (b : List ℕ) → (readBurst b .number ≡ 5) ↔ OtherType b
+  pub six : (b : List ℕ) → (readBurst b .number ≡ 6) ↔ FieldGives 6 b
+  pub seven : (b : List ℕ) → (readBurst b .number ≡ 7) ↔ FieldGives 7 b
+  pub no-other : (b : List ℕ) → let n = readBurst b .number in (n ≡ 0) ⊎ (n ≡ 1) ⊎ (n ≡ 4) ⊎ (n ≡ 5) ⊎ (n ≡ 6) ⊎ (n ≡ 7)
+  -- the writer gives the octets, or 16 exactly if the colour code has more than four bits or the data type is neither 6 nor 7
+  pub writes : (colour type : ℕ) (info : List ℕ) (sync : Sync) → colour < 16 → known (kindOf type) ≡ true
+      → writeBurst colour type info sync ≡ record { number = 0; octets = writtenBurst colour type info sync }
+  pub sixteen : (colour type : ℕ) (info : List ℕ) (sync : Sync)
+      → (writeBurst colour type info sync .number ≡ 16) ↔ ((16 ≤ colour) ⊎ (known (kindOf type) ≡ false))
