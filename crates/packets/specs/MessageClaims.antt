@@ -4,10 +4,11 @@ use mathlib.Core.Path.{_≡_}
 use mathlib.Core.Bool.{true}
 use mathlib.Core.List.{List}
 use Prim.Native.Nat.{ℕ, _+_, _*_, _≤_, _<_}
-use lib.ListN.{length, take, getD}
+use lib.ListN.{length, take, getD, replicate}
 use Rattle.codes.specs.Checks.{messageGood}
 use Rattle.packets.specs.Headers.{writtenHeader}
-use Rattle.packets.specs.Messages.{blockSize, checkSize, mostBlocks, mostOctets, blocksOf, padOf, laidOut, blockData, joined, Within, attemptHeader, fullHeader, partialHeader}
+use Rattle.packets.specs.Blocks.{writtenBlock}
+use Rattle.packets.specs.Messages.{blockSize, checkSize, mostBlocks, mostOctets, blocksOf, padOf, sizeOf, laidOut, blockData, joined, writeMessageBlock, Within, attemptHeader, refusedHeader, fullHeader, partialHeader}
 use Rattle.packets.specs.declared.message.Delivery.{Delivery}
 
 -- n is the length of a message, m its octets
@@ -34,9 +35,23 @@ pub record MessageClaims : Type 0 where
   pub octets : (m : List ℕ) → ((j : ℕ) → getD m j 0 < 256) → (j : ℕ) → getD (laidOut m) j 0 < 256
   -- and so are those of each block
   pub block-octets : (m : List ℕ) → ((j : ℕ) → getD m j 0 < 256) → (k j : ℕ) → getD (blockData m k) j 0 < 256
+  -- blocks and pad are given for at most 626 octets, else 16
+  pub sized : (n : ℕ) → n ≤ mostOctets → sizeOf n ≡ record { number = 0; blocks = blocksOf n; pad = padOf n }
+  pub too-long : (n : ℕ) → mostOctets < n → sizeOf n ≡ record { number = 16; blocks = 0; pad = 0 }
+  -- block k is written with k for its serial; 16 for a message that is too long or has no such block
+  pub block-written : (m : List ℕ) (k : ℕ) → length m ≤ mostOctets → k < blocksOf (length m)
+      → writeMessageBlock m k ≡ record { number = 0; octets = writtenBlock k (blockData m k) }
+  pub block-too-long : (m : List ℕ) (k : ℕ) → mostOctets < length m → writeMessageBlock m k ≡ record { number = 16; octets = replicate 12 0 }
+  pub block-none : (m : List ℕ) (k : ℕ) → length m ≤ mostOctets → blocksOf (length m) ≤ k
+      → writeMessageBlock m k ≡ record { number = 16; octets = replicate 12 0 }
   -- the header before a whole message, with fields within their widths: flag 1 and the message's number of blocks
   pub full-header : (n : ℕ) (d : Delivery) → Within d → n ≤ mostOctets
       → fullHeader n d ≡ record { number = 0; octets = writtenHeader (attemptHeader n d 1 (blocksOf n)) }
   -- the header before a repeat attempt: flag 0 and the number of blocks in that attempt
   pub partial-header : (n : ℕ) (d : Delivery) → Within d → n ≤ mostOctets → (count : ℕ) → 1 ≤ count → count ≤ blocksOf n
       → partialHeader n d count ≡ record { number = 0; octets = writtenHeader (attemptHeader n d 0 count) }
+  -- 16 for the header of a message that is too long, and of an attempt with no block or more than the message has
+  pub full-too-long : (n : ℕ) (d : Delivery) → mostOctets < n → fullHeader n d ≡ refusedHeader
+  pub partial-too-long : (n : ℕ) (d : Delivery) (count : ℕ) → mostOctets < n → partialHeader n d count ≡ refusedHeader
+  pub partial-none : (n : ℕ) (d : Delivery) → n ≤ mostOctets → partialHeader n d 0 ≡ refusedHeader
+  pub partial-many : (n : ℕ) (d : Delivery) (count : ℕ) → n ≤ mostOctets → blocksOf n < count → partialHeader n d count ≡ refusedHeader

@@ -7,9 +7,9 @@ use mathlib.Core.Logic.{_↔_, _≢_}
 use Prim.Native.Nat.{ℕ}
 use lib.ListN.{length, replicate}
 use Rattle.codes.specs.Checks.{headerGood, messageGood}
-use Rattle.packets.specs.Headers.{headerMask, formatOf}
+use Rattle.packets.specs.Headers.{headerMask, formatOf, widthNumber}
 use Rattle.packets.specs.Messages.{Within}
-use Rattle.packets.specs.Responses.{classOf, typeOf, isSack, writeResponse, refusedResponse, readResponse}
+use Rattle.packets.specs.Responses.{classOf, typeOf, responseHeader, isSack, writeResponse, refusedResponse, readResponse}
 use Rattle.packets.specs.declared.message.Delivery.{Delivery}
 use Rattle.packets.specs.declared.response.Reply.{Reply}
 use Rattle.packets.specs.declared.response.Reply.the-variants.{Ack, Nack, Sack}
@@ -53,7 +53,10 @@ pub data Outcome (h b : List ℕ) : ℕ → Type 0 where
 pub record ResponseClaims : Type 0 where
   -- with fields within their widths a response is written
   pub written : (r : Reply) (d : Delivery) (flags : List ℕ) → Within d → writeResponse r d flags .number ≡ 0
-  -- and reads back, with the 8 flag octets of a SACK
+  -- any other is refused with 16
+  pub too-wide : (r : Reply) (d : Delivery) (flags : List ℕ) → widthNumber (responseHeader r d) ≢ 0
+      → writeResponse r d flags ≡ record { number = 16; header = replicate 12 0; blocks = 0; block = replicate 12 0 }
+  -- what is written reads back, with the 8 flag octets of a SACK
   pub reads-back : (r : Reply) (d : Delivery) (flags : List ℕ) → Within d → length flags ≡ 8
       → readResponse (writeResponse r d flags .header) (writeResponse r d flags .block) ≡ answerOf r d flags
   -- an ACK reads back whatever octets b stand beside its header

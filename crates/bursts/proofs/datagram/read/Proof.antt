@@ -4,7 +4,7 @@ use mathlib.Core.Path.{sym, ap, _∙_}
 use native.Mathlib.Omega.{arith}
 use borrow.Author.Tests.{not-true, not-false}
 use borrow.Author.Needs.{needs}
-use Rattle.bursts.specs.Bursts.{slotGood, burstSlot}
+use Rattle.bursts.specs.Bursts.{burstSlot}
 use Rattle.bursts.proofs.DatagramNumbers.{burst-part, number-size, number-prefix, number-frame, number-slot, read-refused}
 use Rattle.bursts.proofs.Variants.{slot-refused}
 use Rattle.bursts.proofs.datagram.read.Statement.{statement}
