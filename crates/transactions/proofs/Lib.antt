@@ -1,0 +1,5 @@
+pub mod Tests
+pub mod Order
+pub mod FlagOctets
+pub mod Hearing
+pub mod Responding
