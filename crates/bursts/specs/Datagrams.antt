@@ -67,15 +67,8 @@ labelsOf d = record {
 }
 
 unfoldable pub noLabels : Labels
-noLabels = record {
-  sequence = 0;
-  source = record { 0 = 0 };
-  target = record { 0 = 0 };
-  repeater = record { 0 = 0 };
-  timeslot = 0;
-  call = 0;
-  stream = 0;
-}
+noLabels =
+    record { sequence = 0; source = record { 0 = 0 }; target = record { 0 = 0 }; repeater = record { 0 = 0 }; timeslot = 0; call = 0; stream = 0 }
 
 -- zeros beside the number of a refusal
 unfoldable pub refusedDatagram : ℕ → Datagram

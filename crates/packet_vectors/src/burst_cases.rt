@@ -1,4 +1,6 @@
 // Bursts and datagrams, written and read. The information is the header of packet_cases.
+ghost use mathlib.Core.Path.{_≡_};
+ghost use Prim.Native.Nat.{_+_, _%_, _^_};
 use addresses::RadioAddress;
 use addresses::RepeaterNumber;
 use bursts::burst;
@@ -21,41 +23,58 @@ fn damaged() -> [u8; 33] {
     *b"\x06\x49\x2f\xab\xbd\x37\x14\x4b\x2d\xd3\x0a\x49\xe5\x9d\xff\x57\xd7\x5d\xf5\xd3\xba\xdc\x6b\xb8\xc1\x66\x1e\x06\x18\x41\x88\xc7\xcb"
 }
 
-fn written(t: Tally, text: &[u8], sync: Sync, expected: &[u8]) -> Tally {
+fn written(t: Tally, text: &[u8], sync: Sync, expected: &[u8]) -> Tally
+    ensures { λ r. ⌜ r .cases ≡ (t .cases + 1) % 2 ^ 32 ⌝ }
+{
     let octets = burst::write(1, 6, info(), sync).octets;
     report::name(b"writing a burst, ", text);
     report::octets(t, &octets, expected)
 }
 
-fn not_written(t: Tally, text: &[u8], colour: u8, datatype: u8) -> Tally {
+fn not_written(t: Tally, text: &[u8], colour: u8, datatype: u8) -> Tally
+    ensures { λ r. ⌜ r .cases ≡ (t .cases + 1) % 2 ^ 32 ⌝ }
+{
     let number = burst::write(colour, datatype, info(), Sync::Base).number;
     report::name(b"writing a burst, ", text);
     report::number(t, 2, report::wide(number), 16)
 }
 
-fn read(t: Tally, text: &[u8], octets: &[u8]) -> Tally {
+fn read(t: Tally, text: &[u8], octets: &[u8]) -> Tally
+    ensures { λ r. ⌜ r .cases ≡ (t .cases + 1) % 2 ^ 32 ⌝ }
+{
     let found = burst::read(octets).info;
     report::name(b"reading a burst, ", text);
     report::octets(t, &found, &info())
 }
 
-fn refused(t: Tally, text: &[u8], octets: &[u8], expected: u32) -> Tally {
+fn refused(t: Tally, text: &[u8], octets: &[u8], expected: u32) -> Tally
+    ensures { λ r. ⌜ r .cases ≡ (t .cases + 1) % 2 ^ 32 ⌝ }
+{
     report::name(b"reading a burst, ", text);
     report::number(t, 1, report::wide(burst::read(octets).number), expected)
 }
 
-fn whole_bursts(mut t: Tally) -> Tally {
+fn written_bursts(mut t: Tally) -> Tally
+    ensures { λ r. ⌜ r .cases ≡ (t .cases + 4) % 2 ^ 32 ⌝ }
+{
     let mobile =
         b"\x02\x59\x29\xbb\x1d\x37\x14\x8a\x25\xd1\x0e\x41\xc5\x8d\x5d\x7f\x77\xfd\x75\x73\x3a\xd4\x69\xbc\x81\x66\x0e\x26\x1c\x00\x08\xa7\xc9";
     t = written(t, b"base", Sync::Base, &whole());
     t = written(t, b"mobile", Sync::Mobile, mobile);
     t = not_written(t, b"colour code 16, number", 16, 6);
-    t = not_written(t, b"data type 2, number", 1, 2);
+    not_written(t, b"data type 2, number", 1, 2)
+}
+
+fn read_bursts(mut t: Tally) -> Tally
+    ensures { λ r. ⌜ r .cases ≡ (t .cases + 2) % 2 ^ 32 ⌝ }
+{
     t = read(t, b"as written", &whole());
     read(t, b"damaged as demand 2 allows", &damaged())
 }
 
-fn refused_bursts(mut t: Tally) -> Tally {
+fn refused_bursts(mut t: Tally) -> Tally
+    ensures { λ r. ⌜ r .cases ≡ (t .cases + 3) % 2 ^ 32 ⌝ }
+{
     let idle =
         b"\x53\xc2\x5e\xab\xa8\x67\x1d\xc7\x38\x3b\xd9\x36\x00\x0d\xff\x57\xd7\x5d\xf5\xd0\x03\xf6\xe4\x65\x17\x1b\x48\xca\x6d\x4f\xc6\x10\xb4";
     let two =
@@ -77,19 +96,31 @@ fn labels() -> Labels {
     }
 }
 
-fn carried(t: Tally, text: &[u8], octets: &[u8], expected: u32) -> Tally {
+fn carried(t: Tally, text: &[u8], octets: &[u8], expected: u32) -> Tally
+    ensures { λ r. ⌜ r .cases ≡ (t .cases + 1) % 2 ^ 32 ⌝ }
+{
     report::name(b"reading a datagram, ", text);
     report::number(t, 1, report::wide(datagram::read(octets).number), expected)
 }
 
-// The datagram that is written, what it reads as, and the counter of the next one.
-fn datagrams(mut t: Tally) -> Tally {
-    let expected =
-        b"\x44\x4d\x52\x44\xff\x1a\x0b\x0c\x00\x21\x04\x01\x02\x03\x04\xa6\xca\xfe\x00\x01\x02\x59\x29\xbb\x1d\x37\x14\x8a\x25\xd1\x0e\x41\xc5\x8d\xff\x57\xd7\x5d\xf5\xd3\x3a\xd4\x69\xbc\x81\x66\x0e\x26\x1c\x00\x08\xa7\xc9";
+// The datagram of these labels and the burst above.
+fn datagram_octets() -> [u8; 53] {
+    *b"\x44\x4d\x52\x44\xff\x1a\x0b\x0c\x00\x21\x04\x01\x02\x03\x04\xa6\xca\xfe\x00\x01\x02\x59\x29\xbb\x1d\x37\x14\x8a\x25\xd1\x0e\x41\xc5\x8d\xff\x57\xd7\x5d\xf5\xd3\x3a\xd4\x69\xbc\x81\x66\x0e\x26\x1c\x00\x08\xa7\xc9"
+}
+
+fn written_datagram(t: Tally) -> Tally
+    ensures { λ r. ⌜ r .cases ≡ (t .cases + 1) % 2 ^ 32 ⌝ }
+{
     let octets = datagram::write(labels(), 1, 6, info(), Sync::Base).octets;
     report::name(b"writing a datagram", b"");
-    t = report::octets(t, &octets, expected);
-    let found = datagram::read(&octets);
+    report::octets(t, &octets, &datagram_octets())
+}
+
+// What it reads as, and the counter of the next one.
+fn read_datagram(mut t: Tally) -> Tally
+    ensures { λ r. ⌜ r .cases ≡ (t .cases + 3) % 2 ^ 32 ⌝ }
+{
+    let found = datagram::read(&datagram_octets());
     let got = found.info;
     report::name(b"reading this datagram, ", b"information");
     t = report::octets(t, &got, &info());
@@ -99,7 +130,9 @@ fn datagrams(mut t: Tally) -> Tally {
     report::number(t, 2, report::wide(datagram::next_sequence(255)), 0)
 }
 
-fn damaged_datagrams(mut t: Tally) -> Tally {
+fn damaged_datagrams(mut t: Tally) -> Tally
+    ensures { λ r. ⌜ r .cases ≡ (t .cases + 4) % 2 ^ 32 ⌝ }
+{
     let three =
         b"\x44\x4d\x52\x44\xff\x1a\x0b\x0c\x00\x21\x04\x01\x02\x03\x04\xa6\xca\xfe\x00\x01\x02\x59\x29\xbb\x1d\x37\x14\x8a\x25\xd1\x0e\x41\xfd\x8d\xff\x57\xd7\x5d\xf5\xd3\x3a\xd4\x69\xbc\x81\x66\x0e\x26\x1c\x00\x08\xa7\xc9";
     let four =
@@ -110,7 +143,9 @@ fn damaged_datagrams(mut t: Tally) -> Tally {
     carried(t, b"54 zeros, number", &[0u8; 54], 1)
 }
 
-fn other_datagrams(mut t: Tally) -> Tally {
+fn other_datagrams(mut t: Tally) -> Tally
+    ensures { λ r. ⌜ r .cases ≡ (t .cases + 2) % 2 ^ 32 ⌝ }
+{
     let frame =
         b"\x44\x4d\x52\x44\xff\x1a\x0b\x0c\x00\x21\x04\x01\x02\x03\x04\x96\xca\xfe\x00\x01\x02\x59\x29\xbb\x1d\x37\x14\x8a\x25\xd1\x0e\x41\xc5\x8d\xff\x57\xd7\x5d\xf5\xd3\x3a\xd4\x69\xbc\x81\x66\x0e\x26\x1c\x00\x08\xa7\xc9";
     let datatype =
@@ -119,7 +154,20 @@ fn other_datagrams(mut t: Tally) -> Tally {
     carried(t, b"data type 7 and slot type 6, number", datatype, 5)
 }
 
-pub fn cases(mut t: Tally) -> Tally {
-    t = refused_bursts(whole_bursts(t));
-    other_datagrams(damaged_datagrams(datagrams(t)))
+fn bursts(t: Tally) -> Tally
+    ensures { λ r. ⌜ r .cases ≡ (t .cases + 9) % 2 ^ 32 ⌝ }
+{
+    refused_bursts(read_bursts(written_bursts(t)))
+}
+
+fn datagrams(t: Tally) -> Tally
+    ensures { λ r. ⌜ r .cases ≡ (t .cases + 10) % 2 ^ 32 ⌝ }
+{
+    other_datagrams(damaged_datagrams(read_datagram(written_datagram(t))))
+}
+
+pub fn cases(t: Tally) -> Tally
+    ensures { λ r. ⌜ r .cases ≡ (t .cases + 19) % 2 ^ 32 ⌝ }
+{
+    datagrams(bursts(t))
 }

@@ -1,4 +1,6 @@
 // Headers, blocks, messages and responses, written and read.
+ghost use mathlib.Core.Path.{_≡_};
+ghost use Prim.Native.Nat.{_+_, _%_, _^_};
 use addresses::RadioAddress;
 use packets::block;
 use packets::header;
@@ -38,27 +40,40 @@ fn sized(octets: usize) -> u32 {
     (report::wide(size.blocks) << 8) | report::wide(size.pad)
 }
 
-fn size(t: Tally, text: &[u8], octets: usize, expected: u32) -> Tally {
+fn size(t: Tally, text: &[u8], octets: usize, expected: u32) -> Tally
+    ensures { λ r. ⌜ r .cases ≡ (t .cases + 1) % 2 ^ 32 ⌝ }
+{
     report::name(b"blocks and pad of a message, octets ", text);
     report::number(t, 4, sized(octets), expected)
 }
 
-fn sizes(mut t: Tally) -> Tally {
+fn sizes(mut t: Tally) -> Tally
+    ensures { λ r. ⌜ r .cases ≡ (t .cases + 3) % 2 ^ 32 ⌝ }
+{
     t = size(t, b"0", 0, 0x0106);
     t = size(t, b"6", 6, 0x0100);
-    t = size(t, b"7", 7, 0x0209);
+    size(t, b"7", 7, 0x0209)
+}
+
+fn largest_sizes(mut t: Tally) -> Tally
+    ensures { λ r. ⌜ r .cases ≡ (t .cases + 2) % 2 ^ 32 ⌝ }
+{
     t = size(t, b"626", 626, 0x3F00);
     size(t, b"627, number", 627, 16)
 }
 
-fn block_of(t: Tally, text: &[u8], n: usize, expected: &[u8]) -> Tally {
+fn block_of(t: Tally, text: &[u8], n: usize, expected: &[u8]) -> Tally
+    ensures { λ r. ⌜ r .cases ≡ (t .cases + 1) % 2 ^ 32 ⌝ }
+{
     let octets = message::block(b"TARE -12.5 mm", n).octets;
     report::name(b"TARE -12.5 mm, ", text);
     report::octets(t, &octets, expected)
 }
 
 // The message of 13 octets in two blocks, with the headers of a whole and of a repeat attempt.
-fn message_octets(mut t: Tally) -> Tally {
+fn message_octets(mut t: Tally) -> Tally
+    ensures { λ r. ⌜ r .cases ≡ (t .cases + 4) % 2 ^ 32 ⌝ }
+{
     let full = message::full_header(13, delivery()).octets;
     let partial = message::partial_header(13, delivery(), 1).octets;
     report::name(b"TARE -12.5 mm, ", b"header");
@@ -95,29 +110,42 @@ fn header_number(octets: &[u8]) -> u32 {
     }
 }
 
-fn read_header(t: Tally, text: &[u8], octets: &[u8], expected: u32) -> Tally {
+fn read_header(t: Tally, text: &[u8], octets: &[u8], expected: u32) -> Tally
+    ensures { λ r. ⌜ r .cases ≡ (t .cases + 1) % 2 ^ 32 ⌝ }
+{
     report::name(b"reading a header, ", text);
     report::number(t, 1, header_number(octets), expected)
 }
 
-fn headers(mut t: Tally) -> Tally {
+fn headers(mut t: Tally) -> Tally
+    ensures { λ r. ⌜ r .cases ≡ (t .cases + 2) % 2 ^ 32 ⌝ }
+{
     let good = b"\x43\x43\x00\x21\x04\x1a\x0b\x0c\x82\x58\xdd\xc0";
     let reserved = b"\x63\x43\x00\x21\x04\x1a\x0b\x0c\x82\x58\xe4\xcd";
+    t = read_header(t, b"as written, number", good, 0);
+    read_header(t, b"reserved bit 1, number", reserved, 0)
+}
+
+fn refused_headers(mut t: Tally) -> Tally
+    ensures { λ r. ⌜ r .cases ≡ (t .cases + 3) % 2 ^ 32 ⌝ }
+{
     let format = b"\x44\x43\x00\x21\x04\x1a\x0b\x0c\x82\x58\xc1\x3a";
     let check = b"\x43\x43\x00\x21\x04\x1a\x0b\x0c\x82\x58\xdd\xc1";
-    t = read_header(t, b"as written, number", good, 0);
-    t = read_header(t, b"reserved bit 1, number", reserved, 0);
     t = read_header(t, b"format 4, number", format, 9);
     t = read_header(t, b"another check, number", check, 8);
     read_header(t, b"11 octets, number", &[0u8; 11], 1)
 }
 
-fn read_block(t: Tally, text: &[u8], octets: &[u8], expected: u32) -> Tally {
+fn read_block(t: Tally, text: &[u8], octets: &[u8], expected: u32) -> Tally
+    ensures { λ r. ⌜ r .cases ≡ (t .cases + 1) % 2 ^ 32 ⌝ }
+{
     report::name(b"reading a block, ", text);
     report::number(t, 1, report::wide(block::read(octets).number), expected)
 }
 
-fn write_block(t: Tally, text: &[u8], serial: u8, octets: &[u8], expected: u32) -> Tally {
+fn write_block(t: Tally, text: &[u8], serial: u8, octets: &[u8], expected: u32) -> Tally
+    ensures { λ r. ⌜ r .cases ≡ (t .cases + 1) % 2 ^ 32 ⌝ }
+{
     report::name(b"writing a block, ", text);
     report::number(
         t,
@@ -127,12 +155,19 @@ fn write_block(t: Tally, text: &[u8], serial: u8, octets: &[u8], expected: u32) 
     )
 }
 
-fn blocks(mut t: Tally) -> Tally {
+fn read_blocks(mut t: Tally) -> Tally
+    ensures { λ r. ⌜ r .cases ≡ (t .cases + 3) % 2 ^ 32 ⌝ }
+{
     let good = b"\x01\xcb\x54\x41\x52\x45\x20\x2d\x31\x32\x2e\x35";
     let bad = b"\x01\xcb\x54\x41\x52\x45\x20\x2d\x31\x32\x2e\x36";
     t = read_block(t, b"as written, number", good, 0);
     t = read_block(t, b"another octet, number", bad, 13);
-    t = read_block(t, b"13 octets, number", &[0u8; 13], 1);
+    read_block(t, b"13 octets, number", &[0u8; 13], 1)
+}
+
+fn written_blocks(mut t: Tally) -> Tally
+    ensures { λ r. ⌜ r .cases ≡ (t .cases + 3) % 2 ^ 32 ⌝ }
+{
     t = write_block(t, b"serial 127, number", 127, &[0u8; 10], 0);
     t = write_block(t, b"serial 128, number", 128, &[0u8; 10], 16);
     write_block(t, b"9 octets, number", 0, &[0u8; 9], 1)
@@ -142,13 +177,17 @@ fn flags() -> [u8; 8] {
     *b"\xfd\xff\xff\xff\xff\xff\xff\xff"
 }
 
-fn reply(t: Tally, text: &[u8], r: Reply, expected: &[u8]) -> Tally {
-    let octets = response::write(r, back(), flags()).header;
+fn reply(t: Tally, text: &[u8], kind: Reply, expected: &[u8]) -> Tally
+    ensures { λ r. ⌜ r .cases ≡ (t .cases + 1) % 2 ^ 32 ⌝ }
+{
+    let octets = response::write(kind, back(), flags()).header;
     report::name(b"response, N(S) 5, ", text);
     report::octets(t, &octets, expected)
 }
 
-fn replies(mut t: Tally) -> Tally {
+fn replies(mut t: Tally) -> Tally
+    ensures { λ r. ⌜ r .cases ≡ (t .cases + 3) % 2 ^ 32 ⌝ }
+{
     t = reply(
         t,
         b"ACK",
@@ -161,12 +200,17 @@ fn replies(mut t: Tally) -> Tally {
         Reply::Nack,
         b"\x01\x40\x1a\x0b\x0c\x00\x21\x04\x00\x4d\xeb\xf8",
     );
-    t = reply(
+    reply(
         t,
         b"SACK",
         Reply::Sack,
         b"\x01\x40\x1a\x0b\x0c\x00\x21\x04\x01\x85\x80\x8d",
-    );
+    )
+}
+
+fn sack_block(t: Tally) -> Tally
+    ensures { λ r. ⌜ r .cases ≡ (t .cases + 1) % 2 ^ 32 ⌝ }
+{
     let data = response::write(Reply::Sack, back(), flags()).block;
     report::name(b"data block of this SACK, ", b"block 1 of 3 missing");
     report::octets(
@@ -176,7 +220,9 @@ fn replies(mut t: Tally) -> Tally {
     )
 }
 
-fn heard(t: Tally, text: &[u8], header: &[u8], data: &[u8], expected: u32) -> Tally {
+fn heard(t: Tally, text: &[u8], header: &[u8], data: &[u8], expected: u32) -> Tally
+    ensures { λ r. ⌜ r .cases ≡ (t .cases + 1) % 2 ^ 32 ⌝ }
+{
     report::name(b"reading a response, ", text);
     report::number(
         t,
@@ -186,15 +232,23 @@ fn heard(t: Tally, text: &[u8], header: &[u8], data: &[u8], expected: u32) -> Ta
     )
 }
 
-fn readings(mut t: Tally) -> Tally {
+fn readings(mut t: Tally) -> Tally
+    ensures { λ r. ⌜ r .cases ≡ (t .cases + 2) % 2 ^ 32 ⌝ }
+{
     let ack = b"\x01\x40\x1a\x0b\x0c\x00\x21\x04\x00\x0d\xa3\x3c";
     let sack = b"\x01\x40\x1a\x0b\x0c\x00\x21\x04\x01\x85\x80\x8d";
     let data = b"\xfd\xff\xff\xff\xff\xff\xff\xff\x00\xb6\xae\x30";
-    let other = b"\xfd\xff\xff\xff\xff\xff\xff\xff\x00\xb6\xae\x31";
     let found = response::read(sack, data).flags;
     report::name(b"reading a response, ", b"flags of the SACK");
     t = report::octets(t, &found, &flags());
-    t = heard(t, b"ACK and no data, number", ack, b"", 0);
+    heard(t, b"ACK and no data, number", ack, b"", 0)
+}
+
+fn refused_readings(mut t: Tally) -> Tally
+    ensures { λ r. ⌜ r .cases ≡ (t .cases + 3) % 2 ^ 32 ⌝ }
+{
+    let sack = b"\x01\x40\x1a\x0b\x0c\x00\x21\x04\x01\x85\x80\x8d";
+    let other = b"\xfd\xff\xff\xff\xff\xff\xff\xff\x00\xb6\xae\x31";
     t = heard(t, b"SACK and no data, number", sack, b"", 1);
     t = heard(t, b"SACK with another check, number", sack, other, 13);
     heard(
@@ -206,8 +260,26 @@ fn readings(mut t: Tally) -> Tally {
     )
 }
 
-pub fn cases(mut t: Tally) -> Tally {
-    t = message_octets(sizes(t));
-    t = blocks(headers(t));
-    readings(replies(t))
+fn messages(t: Tally) -> Tally
+    ensures { λ r. ⌜ r .cases ≡ (t .cases + 9) % 2 ^ 32 ⌝ }
+{
+    message_octets(largest_sizes(sizes(t)))
+}
+
+fn headers_and_blocks(t: Tally) -> Tally
+    ensures { λ r. ⌜ r .cases ≡ (t .cases + 11) % 2 ^ 32 ⌝ }
+{
+    written_blocks(read_blocks(refused_headers(headers(t))))
+}
+
+fn responses(t: Tally) -> Tally
+    ensures { λ r. ⌜ r .cases ≡ (t .cases + 9) % 2 ^ 32 ⌝ }
+{
+    refused_readings(readings(sack_block(replies(t))))
+}
+
+pub fn cases(t: Tally) -> Tally
+    ensures { λ r. ⌜ r .cases ≡ (t .cases + 29) % 2 ^ 32 ⌝ }
+{
+    responses(headers_and_blocks(messages(t)))
 }

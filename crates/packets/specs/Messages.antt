@@ -79,16 +79,10 @@ confirmedFsn = 8
 
 -- the header of an attempt with this flag and count: group 0, a response requested, S 0
 unfoldable pub attemptHeader : ℕ → Delivery → ℕ → ℕ → Header
-attemptHeader n d full count = Confirmed (record {
-  group = 0;
-  requested = 1;
-  pad = padOf n;
-  sap = d .sap;
-  destination = d .destination;
-  source = d .source;
-  full = full;
-  blocks = count;
-}) 0 (d .ns) confirmedFsn
+attemptHeader n d full count =
+    Confirmed
+    (record { group = 0; requested = 1; pad = padOf n; sap = d .sap; destination = d .destination; source = d .source; full = full; blocks = count })
+    0 (d .ns) confirmedFsn
 
 abbrev pub refusedHeader : HeaderOctets
 refusedHeader = record { number = 16; octets = replicate 12 0 }

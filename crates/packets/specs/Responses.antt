@@ -34,16 +34,10 @@ countOf Sack = 1
 
 -- group, A, pad and flag are 0; status is N(S)
 unfoldable pub responseHeader : Reply → Delivery → Header
-responseHeader r d = Response (record {
-  group = 0;
-  requested = 0;
-  pad = 0;
-  sap = d .sap;
-  destination = d .destination;
-  source = d .source;
-  full = 0;
-  blocks = countOf r;
-}) (classOf r) (typeOf r) (d .ns)
+responseHeader r d =
+    Response
+    (record { group = 0; requested = 0; pad = 0; sap = d .sap; destination = d .destination; source = d .source; full = 0; blocks = countOf r })
+    (classOf r) (typeOf r) (d .ns)
 
 -- the data block of a SACK
 unfoldable pub sackData : List ℕ → List ℕ
@@ -78,16 +72,8 @@ responseNumber h b = firstFailed (responseTests h b)
 
 -- zeros beside the number of a refusal
 abbrev pub refusedResponse : ℕ → ResponseAnswer
-refusedResponse n = record {
-  number = n;
-  class = 0;
-  kind = 0;
-  status = 0;
-  sap = 0;
-  destination = record { 0 = 0 };
-  source = record { 0 = 0 };
-  flags = replicate 8 0;
-}
+refusedResponse n =
+    record { number = n; class = 0; kind = 0; status = 0; sap = 0; destination = record { 0 = 0 }; source = record { 0 = 0 }; flags = replicate 8 0 }
 
 -- the fields, and the flags of a SACK
 unfoldable pub readResponse : List ℕ → List ℕ → ResponseAnswer
