@@ -1,0 +1,134 @@
+-- The claims of the receiver's events hold.
+-- Assumes nothing.
+use mathlib.Core.Path.{_≡_, ap, _∙_}
+use mathlib.Core.Bool.{Bool, true, false, cond}
+use mathlib.Core.List.{List}
+use Prim.Native.Nat.{ℕ, _*_, _-_, _≤_}
+use native.Mathlib.Omega.{arith}
+use lib.Dec.{eqb}
+use lib.ListN.{length, take}
+use borrow.Author.Tests.{eqb-true, eqb-false}
+use Rattle.codes.specs.Checks.{messageGood}
+use Rattle.packets.specs.Messages.{blockSize, checkSize}
+use Rattle.bursts.specs.Bursts.{kindOf, known}
+use Rattle.bursts.specs.Datagrams.{namedType, datagramNumber, readDatagram}
+use Rattle.bursts.proofs.DatagramClaims.{datagrams}
+use Rattle.transactions.specs.Transactions.{isFull, repeats, serialOf, dataOf}
+use Rattle.transactions.specs.Flags.{withFlag}
+use Rattle.transactions.proofs.Tests.{either, never}
+use Rattle.receiver.specs.declared.state.Receiver.{Receiver}
+use Rattle.receiver.specs.declared.event.Answer.{Answer}
+use Rattle.receiver.specs.declared.event.Answer.the-variants.{Refused, Opened, Repeat, Stored, Bad, Message}
+use Rattle.receiver.specs.declared.event.Step.{Step}
+use Rattle.receiver.specs.Receiver.{storeSize, noFlags, held, allHeld, receiverGood}
+use Rattle.receiver.specs.Events.{answered, changed, headerNumber, openedBy, onHeader, putBlock, Left, blockNumber, completed, taken, onBlock, arrivedNumber, onDatagram}
+use Rattle.receiver.specs.Claims.{Arrives, not-taken, a-header, a-block, HeaderRefused, BlockRefused, ReceiverClaims}
+
+-- two answers that differ
+apart : {A : Type 0} → _≡_ {A = ℕ} 0 1 → A
+apart e = absurd (omega arith)
+
+-- ---- refusals
+
+header-refused : (rx : Receiver) (h : List ℕ) → HeaderRefused rx h
+unfolding onHeader
+header-refused rx h n e = go (eqb (headerNumber rx h) 0) (repeats (rx .phase) (rx .transaction) h) (isFull h) e
+  where
+    by : Bool → Bool → Bool → Step
+    by a b c = cond a (cond b (answered rx Repeat) (cond c (answered (openedBy rx h) Opened) (answered rx (Refused 12)))) (answered rx (Refused (headerNumber rx h)))
+
+    go : (a b c : Bool) → by a b c .answer ≡ Refused n → by a b c ≡ answered rx (Refused n)
+    go true true c e = apart (cc)
+    go true false true e = apart (cc)
+    go true false false e = ap (answered rx) e
+    go false b c e = ap (answered rx) e
+
+-- a new block is not refused
+never-refused : (rx : Receiver) (store : List ℕ) (n : ℕ) → taken rx store .answer ≡ Refused n → ⊥
+unfolding taken completed
+never-refused rx store n e = go (allHeld rx) (messageGood (take (blockSize * rx .transaction .blocks) store)) e
+  where
+    by : Bool → Bool → Step
+    by a b =
+        cond a
+        (cond b (answered (changed rx 2 (rx .flags)) (Message (blockSize * rx .transaction .blocks - checkSize - rx .transaction .pad)))
+        (answered (changed rx 1 noFlags) Bad)) (answered rx Stored)
+
+    go : (a b : Bool) → by a b .answer ≡ Refused n → ⊥
+    go true true e = apart (cc)
+    go true false e = apart (cc)
+    go false b e = apart (cc)
+
+block-refused : (rx : Receiver) (store b : List ℕ) → BlockRefused rx store b
+unfolding onBlock
+block-refused rx store b n e = go (eqb (blockNumber rx store b) 0) (held rx (serialOf b)) e
+  where
+    next : List ℕ
+    next = putBlock store (serialOf b) (dataOf b)
+
+    with : Receiver
+    with = changed rx 1 (withFlag (rx .flags) (serialOf b))
+
+    kept : Answer → Left
+    kept a = record { step = answered rx a; store = store }
+
+    by : Bool → Bool → Left
+    by a h = cond a (cond h (kept Repeat) (record { step = taken with next; store = next })) (kept (Refused (blockNumber rx store b)))
+
+    go : (a h : Bool) → by a h .step .answer ≡ Refused n → by a h ≡ kept (Refused n)
+    go true true e = apart (cc)
+    go true false e = absurd (never-refused with next n e)
+    go false h e = ap kept e
+
+-- ---- a datagram
+
+-- a data type that is known and not 6 is 7
+seven : (t : ℕ) → known (kindOf t) ≡ true → eqb t 6 ≡ false → t ≡ 7
+unfolding kindOf known
+seven t k n = either (eqb t 7) (λ e. eqb-true t 7 e) (λ e. never k (rw (n, e)))
+
+-- the data type that is read is the one that the datagram names
+named : (d : List ℕ) → datagramNumber d ≡ 0 → readDatagram d .datatype ≡ namedType d
+unfolding readDatagram
+named d e = rw e
+
+module _ (rx : Receiver) (store d : List ℕ) where
+  small : arrivedNumber rx store d ≤ 7
+  unfolding arrivedNumber
+  small = go (receiverGood rx) (eqb (length store) storeSize)
+    where
+      go : (a b : Bool) → cond a (cond b (datagramNumber d) 1) 1 ≤ 7
+      go true true = omega (arith, datagrams .no-other d, datagrams .numbered d)
+      go true false = omega arith
+      go false b = omega arith
+
+  read : arrivedNumber rx store d ≡ 0 → datagramNumber d ≡ 0
+  unfolding arrivedNumber
+  read e = go (receiverGood rx) (eqb (length store) storeSize) e
+    where
+      go : (a b : Bool) → cond a (cond b (datagramNumber d) 1) 1 ≡ 0 → datagramNumber d ≡ 0
+      go true true e = e
+      go true false e = absurd (omega arith)
+      go false b e = absurd (omega arith)
+
+  module _ (e : arrivedNumber rx store d ≡ 0) where
+    good : readDatagram d .number ≡ 0
+    good = datagrams .numbered d ∙ read e
+
+    kind : known (kindOf (readDatagram d .datatype)) ≡ true
+    kind = rw (named d (read e)) (datagrams .zero d .0 good .4)
+
+    arrives : Arrives rx store d
+    unfolding onDatagram
+    arrives =
+        either (eqb (readDatagram d .datatype) 6) (λ t. a-header good (eqb-true (readDatagram d .datatype) 6 t) (rw (e, t)))
+        (λ t. a-block good (seven (readDatagram d .datatype) kind t) (rw (e, t)))
+
+  datagram : Arrives rx store d
+  unfolding onDatagram
+  datagram =
+      either (eqb (arrivedNumber rx store d) 0) (λ t. arrives (eqb-true (arrivedNumber rx store d) 0 t))
+      (λ t. not-taken (arrivedNumber rx store d) (omega (arith, eqb-false (arrivedNumber rx store d) 0 t)) small (rw t))
+
+pub claims : ReceiverClaims
+claims = record { header-refused = header-refused; block-refused = block-refused; datagram = datagram }

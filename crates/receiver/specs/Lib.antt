@@ -1,0 +1,4 @@
+pub mod Receiver
+pub mod Events
+pub mod Claims
+pub mod Parts
