@@ -1,0 +1,70 @@
+-- Octets written over a list, one at a time and one part behind the other.
+-- Assumes nothing.
+use mathlib.Core.Path.{_≡_, refl, ap, subst, _∙_}
+use mathlib.Core.List.{List, _++_, append-nil}
+use Prim.Native.Nat.{ℕ, _+_, _≤_, _<_}
+use native.Mathlib.Nat.{zero-add}
+use native.Mathlib.Numerals.{add-one}
+use native.Mathlib.Omega.{arith}
+use lib.ListN.{length, getD, drop, set, length-append, drop-of-length-le}
+use lib.Seq.{paste, paste-zero, paste-suc, length-paste, take-all, take-at, drop-drop, drop-append-add}
+use Rattle.stored.specs.Parts.{over}
+
+-- m is d with the first i of the octets s written at a place
+pub record Copied (d : List ℕ) (at : ℕ) (s : List ℕ) (i : ℕ) (m : List ℕ) : Type 0 where
+  pub part : i ≤ length s
+  pub is : m ≡ paste d at s i
+
+module _ (d : List ℕ) (at : ℕ) (s : List ℕ) where
+  pub copied-start : Copied d at s 0 d
+  copied-start = record { part = omega arith; is = paste-zero d at s }
+
+  module _ (i : ℕ) (m : List ℕ) (room : at + length s ≤ length d) (k : Copied d at s i m) where
+    pub copied-length : length m ≡ length d
+    copied-length = let p = k .part in ap length (k .is) ∙ length-paste d at s i (omega arith) p
+
+    pub copied-more : (x : ℕ) → i < length s → x ≡ getD s i 0 → Copied d at s (i + 1) (set m (at + i) x)
+    copied-more x h e = record {
+      part = omega arith;
+      is = rw (k .is, e, add-one) (paste-suc d at s i 0 (omega arith) h);
+    }
+
+    pub copied-done : length s ≤ i → m ≡ over d at s
+    unfolding over
+    copied-done h =
+        let p = k .part in
+        let done : i ≡ length s = omega arith in
+        k .is ∙ rw (done, take-all (length s) s (omega arith))
+
+-- all of a list written anew
+pub over-all : (d s : List ℕ) → length s ≡ length d → over d 0 s ≡ s
+unfolding over
+over-all d s e = rw (drop-of-length-le d {i = 0 + length s} (omega arith)) (append-nil s)
+
+module _ (d s : List ℕ) (same : length s ≡ length d) (i : ℕ) (m : List ℕ) (k : Copied d 0 s i m) where
+  pub anew-length : length m ≡ length d
+  anew-length = copied-length d 0 s i m (omega arith) k
+
+  pub anew-more : (x : ℕ) → i < length s → x ≡ getD s i 0 → Copied d 0 s (i + 1) (set m i x)
+  anew-more x h e = subst (λ (j : ℕ). Copied d 0 s (i + 1) (set m j x)) (zero-add i) (copied-more d 0 s i m (omega arith) k x h e)
+
+  pub anew-done : length s ≤ i → m ≡ s
+  anew-done h = copied-done d 0 s i m (omega arith) k h ∙ over-all d s same
+
+-- what has been written so far, before the rest of the old octets
+abbrev pub Grown : List ℕ → List ℕ → List ℕ → Type 0
+Grown p d m = m ≡ p ++ drop (length p) d
+
+-- a part behind it
+pub grown : (p s d m m′ : List ℕ) (at : ℕ) → length p ≡ at → at + length s ≤ length d → Grown p d m → m′ ≡ over m at s → Grown (p ++ s) d m′
+unfolding over
+grown p s d m m′ at e h g o =
+    o
+    ∙ rw (
+      g,
+      ← e,
+      take-at p (drop (length p) d) (length p) refl,
+      drop-append-add p (drop (length p) d) (length s),
+      drop-drop (length s) (length p) d,
+      length-append p s,
+    )

@@ -1,0 +1,124 @@
+-- What a stored form holds, octet by octet, and its rules tested from the last octet down.
+-- Assumes nothing.
+use mathlib.Core.Path.{_≡_, refl, sym, ap, _∙_}
+use mathlib.Core.Bool.{Bool, true, false, cond}
+use mathlib.Core.List.{List, _++_}
+use mathlib.Core.Logic.{_≢_}
+use Prim.Native.Nat.{ℕ, _+_, _-_, _/_, _≤_, _<_}
+use native.Mathlib.Omega.{arith}
+use borrow.Author.Tests.{eq-eqb, ne-eqb}
+use lib.Dec.{eqb}
+use lib.ListN.{length, getD, take, drop, length-append, length-drop, List·getD-append}
+use lib.Seq.{length-take-le, getD-take, getD-drop, getD-append-add}
+use Rattle.addresses.specs.Octets.{addressAt}
+use Rattle.addresses.specs.declared.RadioAddress.{RadioAddress}
+use Rattle.polynomials.specs.Bits.{tabulate}
+use Rattle.polynomials.proofs.Runs.{tabulated}
+use Rattle.codes.specs.Order.{every}
+use Rattle.packets.specs.Messages.{blockSize}
+use Rattle.transactions.specs.Flags.{flagOctetCount, flagged}
+use Rattle.transactions.proofs.Order.{every-stops, every-goes}
+use Rattle.receiver.specs.Receiver.{storeSize}
+use Rattle.receiver.specs.declared.state.Receiver.{Receiver}
+use Rattle.stored.specs.Stored.{storedBlock, firstPart, secondPart, storeAt0, storeAt1, receiverIn, storeIn, zerosFrom, clear}
+
+-- the octets of a part
+part-tabulated : (os : List ℕ) (at n : ℕ) → at + n ≤ length os → take n (drop at os) ≡ tabulate n (λ i. getD os (at + i) 0)
+part-tabulated os at n h =
+    tabulated n (λ i. getD os (at + i) 0) (take n (drop at os)) (length-take-le n (drop at os) (omega (arith, length-drop at os)))
+    (λ i l. getD-take n (drop at os) i 0 l ∙ getD-drop at os i 0)
+
+pub receiver-is : (a : List ℕ) (own source : RadioAddress) → 23 ≤ length a → own .0 ≡ addressAt a 5 .0 → source .0 ≡ addressAt a 8 .0
+    → record {
+      own = own;
+      phase = getD a 4 0;
+      transaction = record { source = source; sap = getD a 11 0; ns = getD a 12 0; pad = getD a 13 0; blocks = getD a 14 0 };
+      flags = tabulate flagOctetCount (λ i. getD a (15 + i) 0);
+    } ≡ receiverIn a
+unfolding receiverIn
+receiver-is a own source h e f = rw (part-tabulated a 15 flagOctetCount h, ← e, ← f)
+
+-- one part behind another
+module _ (p q : List ℕ) (n : ℕ) (size : length p ≡ n) where
+  front-at : (i : ℕ) → i < n → getD (p ++ q) i 0 ≡ getD p i 0
+  front-at i h = List·getD-append p q 0 i (omega arith)
+
+  back-at : (i : ℕ) → n ≤ i → getD (p ++ q) i 0 ≡ getD q (i - n) 0
+  back-at i h =
+      let e : i ≡ length p + (i - n) = omega arith in
+      ap (λ (k : ℕ). getD (p ++ q) k 0) e ∙ getD-append-add p q (i - n) 0
+
+module _ (a b : List ℕ) (size-a : length a ≡ storedBlock) (size-b : length b ≡ storedBlock) where
+  abbrev part0 : List ℕ
+  part0 = take firstPart (drop storeAt0 a)
+
+  abbrev part1 : List ℕ
+  part1 = take secondPart (drop storeAt1 b)
+
+  length-part0 : length part0 ≡ firstPart
+  length-part0 = length-take-le firstPart (drop storeAt0 a) (omega (arith, length-drop storeAt0 a))
+
+  length-part1 : length part1 ≡ secondPart
+  length-part1 = length-take-le secondPart (drop storeAt1 b) (omega (arith, length-drop storeAt1 b))
+
+  pub length-storeIn : length (storeIn a b) ≡ storeSize
+  unfolding storeIn
+  length-storeIn = length-append part0 part1 ∙ omega (arith, length-part0, length-part1)
+
+  pub first-in : (i : ℕ) → i < firstPart → getD a (storeAt0 + i) 0 ≡ getD (storeIn a b) i 0
+  unfolding storeIn
+  first-in i h = sym (front-at part0 part1 firstPart length-part0 i h ∙ getD-take firstPart (drop storeAt0 a) i 0 h ∙ getD-drop storeAt0 a i 0)
+
+  pub second-in : (i : ℕ) → firstPart ≤ i → i < storeSize → getD b (storeAt1 + (i - firstPart)) 0 ≡ getD (storeIn a b) i 0
+  unfolding storeIn
+  second-in i h l =
+      sym (back-at part0 part1 firstPart length-part0 i h ∙ getD-take secondPart (drop storeAt1 b) (i - firstPart) 0 (omega arith)
+      ∙ getD-drop storeAt1 b (i - firstPart) 0)
+
+-- ---- octets that are zero
+
+module _ (os : List ℕ) (at : ℕ) where
+  abbrev isZero : ℕ → Bool
+  isZero i = eqb (getD os (at + i) 0) 0
+
+  pub zeros-none : zerosFrom os at 0 ≡ true
+  unfolding zerosFrom
+  zeros-none = refl
+
+  module _ (i : ℕ) (h : 0 < i) where
+    pub zeros-stop : getD os (at + (i - 1)) 0 ≢ 0 → zerosFrom os at i ≡ false
+    unfolding zerosFrom
+    zeros-stop e = every-stops isZero i h (ne-eqb _ _ e)
+
+    pub zeros-go : getD os (at + (i - 1)) 0 ≡ 0 → zerosFrom os at i ≡ zerosFrom os at (i - 1)
+    unfolding zerosFrom
+    zeros-go e = every-goes isZero i h (eq-eqb _ _ e)
+
+-- of the first n octets of a store those of blocks without a flag are zero
+unfoldable pub clearBy : List ℕ → List ℕ → ℕ → Bool
+clearBy flags store n = every n (λ i. cond (flagged flags (i / blockSize)) true (eqb (getD store i 0) 0))
+
+pub clear-by : (rx : Receiver) (store : List ℕ) (n : ℕ) → clearBy (rx .flags) store n ≡ clear rx store n
+unfolding clearBy clear
+clear-by rx store n = refl
+
+module _ (flags store : List ℕ) where
+  abbrev isClear : ℕ → Bool
+  isClear i = cond (flagged flags (i / blockSize)) true (eqb (getD store i 0) 0)
+
+  pub clear-none : clearBy flags store 0 ≡ true
+  unfolding clearBy
+  clear-none = refl
+
+  module _ (i : ℕ) (h : 0 < i) where
+    pub clear-stop : flagged flags ((i - 1) / blockSize) ≡ false → getD store (i - 1) 0 ≢ 0 → clearBy flags store i ≡ false
+    unfolding clearBy
+    clear-stop f e = every-stops isClear i h (rw f (ne-eqb _ _ e))
+
+    pub clear-go : flagged flags ((i - 1) / blockSize) ≡ false → getD store (i - 1) 0 ≡ 0 → clearBy flags store i ≡ clearBy flags store (i - 1)
+    unfolding clearBy
+    clear-go f e = every-goes isClear i h (rw f (eq-eqb _ _ e))
+
+    pub clear-held : flagged flags ((i - 1) / blockSize) ≡ true → clearBy flags store i ≡ clearBy flags store (i - 1)
+    unfolding clearBy
+    clear-held f = every-goes isClear i h (rw f)

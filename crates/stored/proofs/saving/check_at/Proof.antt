@@ -1,0 +1,64 @@
+-- `stored::saving::check_at` meets its contract.
+-- Assumes nothing.
+use Prim.Native.Nat.{ℕ, _+_, _-_, _/_, _%_}
+use mathlib.Core.Path.{_≡_, ap, _∙_}
+use mathlib.Core.List.{[], _∷_}
+use native.Mathlib.Omega.{arith}
+use borrow.Author.Needs.{needs}
+use Rattle.stored.specs.Stored.{checkedSize}
+use Rattle.stored.specs.Parts.{over}
+use Rattle.stored.proofs.saving.check_at.Statement.{statement}
+use Rattle.stored.proofs.saving.check_at.Tie as tie
+
+add-end : tie.Need-add-end
+add-end c = search needs
+
+sub-header : tie.Need-sub-header
+sub-header c = search needs
+
+part-header-start : tie.Need-part-header-start
+part-header-start c = search needs
+
+part-header-end : tie.Need-part-header-end
+part-header-end c = search needs
+
+header-requires : tie.Need-header-requires
+header-requires c κs = search needs
+
+cast-t11 : tie.Need-cast-t11
+cast-t11 c = search needs
+
+cast-t13 : tie.Need-cast-t13
+cast-t13 c = search needs
+
+slice-aggregate-copy-at : tie.Need-slice-aggregate-copy-at
+slice-aggregate-copy-at c = search needs
+
+copy-at-requires : tie.Need-copy-at-requires
+copy-at-requires c κs = search needs
+
+same-length : tie.Need-same-length
+same-length c = search needs
+
+returns : tie.Need-returns
+returns c =
+    let st = c .before .before .before .before .before .before .before .before .before in
+    let k : st .args .at + checkedSize - st .args .at ≡ checkedSize = omega arith in
+    c .before .before .copy-at .ensures
+    ∙ ap (λ (x : ℕ). over (st .args .to .now) (st .args .at + checkedSize) (x / 256 ∷ x % 256 ∷ [])) (rw k at (c .before .before .before .before .before .header .ensures))
+
+pub check-at-spec : {M : Type 1} → statement M
+check-at-spec =
+    tie.close
+    (tie.spec
+    add-end
+    sub-header
+    part-header-start
+    part-header-end
+    header-requires
+    cast-t11
+    cast-t13
+    slice-aggregate-copy-at
+    copy-at-requires
+    same-length
+    returns)

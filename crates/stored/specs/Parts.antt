@@ -1,0 +1,30 @@
+-- What private functions require and give: nothing that a reader has to believe.
+-- Assumes nothing.
+use mathlib.Core.Bool.{Bool, true, cond}
+use mathlib.Core.List.{List, [], _∷_, _++_}
+use Prim.Native.Nat.{ℕ, _+_, _*_}
+use lib.Dec.{eqb}
+use lib.ListN.{length, getD, take, drop}
+use Rattle.codes.specs.Order.{firstFailed}
+use Rattle.codes.specs.Checks.{messageGood}
+use Rattle.packets.specs.Messages.{blockSize}
+use Rattle.receiver.specs.declared.state.Receiver.{Receiver}
+use Rattle.stored.specs.Stored.{layoutTests}
+
+-- octets written over a list at a place
+unfoldable pub over : List ℕ → ℕ → List ℕ → List ℕ
+over to at os = take at to ++ os ++ drop (at + length os) to
+
+-- octets 0 and 1 of both blocks, and their stamps
+unfoldable pub marked : List ℕ → List ℕ → Bool
+marked a b =
+    eqb (firstFailed ((eqb (getD a 0 0) 1, 18) ∷ (eqb (getD a 1 0) 0, 18) ∷ (eqb (getD b 0 0) 1, 18) ∷ (eqb (getD b 1 0) 1, 18)
+    ∷ (eqb (getD a 2 0) (getD b 2 0), 18) ∷ (eqb (getD a 3 0) (getD b 3 0), 18) ∷ [])) 0
+
+-- a complete transaction has a good message check
+unfoldable pub checked : Receiver → List ℕ → Bool
+checked rx store = cond (eqb (rx .phase) 2) (messageGood (take (blockSize * rx .transaction .blocks) store)) true
+
+-- every rule of the layout is kept
+unfoldable pub layoutKept : List ℕ → List ℕ → Receiver → List ℕ → Bool
+layoutKept a b rx store = eqb (firstFailed (layoutTests a b rx store)) 0

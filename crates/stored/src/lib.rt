@@ -1,0 +1,3 @@
+// The stored form of a receiver: saving it, and restoring it from any octets.
+pub mod restoring;
+pub mod saving;

@@ -1,0 +1,168 @@
+// Saving a receiver in its stored form.
+ghost use mathlib.Core.Path.{_≡_};
+ghost use mathlib.Core.List.{_∷_, []};
+ghost use mathlib.Core.Bool.{cond};
+ghost use Rattle.packets.specs.Messages.{blockSize};
+ghost use Prim.Native.Nat.{_+_, _/_, _%_, _≤_, _<_, _^_};
+ghost use lib.ListN.{length, getD, take, drop, replicate};
+ghost use Rattle.codes.specs.Checks.{headerCheck};
+ghost use Rattle.transactions.specs.Flags.{flagged};
+ghost use Rattle.receiver.specs.Receiver.{storeSize};
+ghost use Rattle.stored.specs.Stored.{storedBlock, checkedSize, heldOctets, head0, saveNumber, afterSave};
+ghost use Rattle.stored.specs.Claims.{Savable, Restores};
+ghost use Rattle.stored.specs.Parts.{over};
+use receiver::state::Receiver;
+use receiver::state::STORE;
+
+// Octets of a stored block, of a stored form, and of a block before its check.
+pub const STORED_BLOCK: usize = 512;
+
+pub const FORM: usize = 2 * STORED_BLOCK;
+
+pub const CHECKED: usize = STORED_BLOCK - 2;
+
+// Octets of the store in block 0 and in block 1, and where they begin.
+pub const FIRST_PART: usize = 487;
+
+pub const SECOND_PART: usize = STORE - FIRST_PART;
+
+pub const STORE_AT_0: usize = CHECKED - FIRST_PART;
+
+pub const STORE_AT_1: usize = 4;
+
+// The zeros behind the store in block 1.
+pub const ZEROS_AT: usize = STORE_AT_1 + SECOND_PART;
+
+pub const ZEROS: usize = CHECKED - ZEROS_AT;
+
+// Octets of a block of the store.
+pub const BLOCK: usize = 10;
+
+// Octets written over a slice at a place.
+fn copy_at(to: &mut [u8], at: usize, octets: &[u8])
+    requires { ⌜ at + length (now octets) ≤ length (now to) ⌝ }
+    ensures { λ r. ⌜ now (to .exit) ≡ over (now (to .entry)) at (now (octets .entry)) ⌝ }
+{
+    let mut i: usize = 0;
+    while i < octets.len() {
+        to[at + i] = octets[i];
+        i += 1;
+    }
+}
+
+// Octet i of the store, 0 where its block is not held.
+fn held_octet(flags: [u8; 8], store: &[u8], i: usize) -> u8
+    requires { ⌜ i < length (now store) ⌝ }
+    ensures { λ r. ⌜ r ≡ cond (flagged flags (i / blockSize)) (getD (now (store .entry)) i 0) 0 ⌝ }
+{
+    if !transactions::flags::is_set(flags, i / BLOCK) {
+        return 0;
+    }
+    store[i]
+}
+
+// n octets of the store from a place on, zero where their block is not held.
+fn held_at(to: &mut [u8], at: usize, flags: [u8; 8], store: &[u8], from: usize, n: usize)
+    requires { ⌜ (at + n ≤ length (now to)) × (from + n ≤ length (now store)) ⌝ }
+    ensures { λ r. ⌜ now (to .exit) ≡ over (now (to .entry)) at (heldOctets (flagged flags) (λ i. getD (now (store .entry)) i 0) from n) ⌝ }
+{
+    let mut i: usize = 0;
+    while i < n {
+        to[at + i] = held_octet(flags, store, from + i);
+        i += 1;
+    }
+}
+
+// n zeros at a place.
+fn zeros_at(to: &mut [u8], at: usize, n: usize)
+    requires { ⌜ at + n ≤ length (now to) ⌝ }
+    ensures { λ r. ⌜ now (to .exit) ≡ over (now (to .entry)) at (replicate n 0) ⌝ }
+{
+    let mut i: usize = 0;
+    while i < n {
+        to[at + i] = 0;
+        i += 1;
+    }
+}
+
+// The check of the 510 octets of a block, written behind them.
+fn check_at(to: &mut [u8], at: usize)
+    requires { ⌜ at + storedBlock ≤ length (now to) ⌝ }
+    ensures { λ r. ⌜ now (to .exit) ≡ over (now (to .entry)) (at + checkedSize)
+        (headerCheck 0 (take checkedSize (drop at (now (to .entry)))) / 256 ∷ headerCheck 0 (take checkedSize (drop at (now (to .entry)))) % 256 ∷ []) ⌝ }
+{
+    let end = at + CHECKED;
+    let check = codes::check::header(0, &to[at..end]);
+    let octets = [(check / 256) as u8, (check % 256) as u8];
+    copy_at(to, end, &octets);
+}
+
+// The first 23 octets of block 0.
+fn head(rx: Receiver, s0: u8, s1: u8) -> [u8; 23]
+    ensures { λ r. ⌜ r ≡ head0 (rx .own) (rx .phase) (rx .transaction) (rx .flags) s0 s1 ⌝ }
+{
+    let t = rx.transaction;
+    let own = addresses::radio_octets(rx.own);
+    let source = addresses::radio_octets(t.source);
+    let f = rx.flags;
+    [
+        1,
+        0,
+        s0,
+        s1,
+        rx.phase,
+        own[0],
+        own[1],
+        own[2],
+        source[0],
+        source[1],
+        source[2],
+        t.sap,
+        t.ns,
+        t.pad,
+        t.blocks,
+        f[0],
+        f[1],
+        f[2],
+        f[3],
+        f[4],
+        f[5],
+        f[6],
+        f[7],
+    ]
+}
+
+// The stored form of a receiver and its store, with a stamp of two octets; 1 for a receiver that there can't be or another size.
+pub fn save(rx: Receiver, store: &[u8], s0: u8, s1: u8, form: &mut [u8]) -> u8
+    ensures { λ r. ⌜ (r ≡ saveNumber rx (now (store .entry)) (now (form .entry)))
+        × (now (form .exit) ≡ afterSave rx (now (store .entry)) s0 s1 (now (form .entry)))
+        × (Savable rx (now (store .entry)) → Restores rx (now (store .entry)) s0 s1) ⌝ }
+{
+    if !receiver::state::is_good(rx) {
+        return 1;
+    }
+    if store.len() != STORE {
+        return 1;
+    }
+    if form.len() != FORM {
+        return 1;
+    }
+    let flags = rx.flags;
+    let first = head(rx, s0, s1);
+    copy_at(form, 0, &first);
+    held_at(form, STORE_AT_0, flags, store, 0, FIRST_PART);
+    check_at(form, 0);
+    let second = [1, 1, s0, s1];
+    copy_at(form, STORED_BLOCK, &second);
+    held_at(
+        form,
+        STORED_BLOCK + STORE_AT_1,
+        flags,
+        store,
+        FIRST_PART,
+        SECOND_PART,
+    );
+    zeros_at(form, STORED_BLOCK + ZEROS_AT, ZEROS);
+    check_at(form, STORED_BLOCK);
+    0
+}
