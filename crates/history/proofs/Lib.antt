@@ -1,0 +1,14 @@
+pub mod Kept
+pub mod Store
+pub mod Sound
+pub mod Follows
+pub mod Steps
+pub mod Blocks
+pub mod Restart
+pub mod Demand3
+pub mod Refused
+pub mod Once
+pub mod KeptInOrder
+pub mod Delivered
+pub mod Examples
+pub mod Claims

@@ -1,0 +1,34 @@
+-- A refused event changes nothing.
+-- Assumes nothing.
+use mathlib.Core.Path.{_≡_, refl, ap}
+use mathlib.Core.List.{List}
+use Prim.Native.Nat.{ℕ}
+use Rattle.transactions.specs.Answers.{refused}
+use Rattle.receiver.specs.Events.{Left, said, onHeader, onBlock}
+use Rattle.receiver.specs.declared.event.Answer.{Answer}
+use Rattle.receiver.specs.declared.event.Answer.the-variants.{Refused, Opened, Repeat, Stored, Bad, Message}
+use Rattle.receiver.specs.declared.event.Step.{Step}
+use Rattle.receiver.proofs.Claims.{claims}
+use Rattle.history.specs.History.{Event, header, block, ended}
+use Rattle.history.specs.Run.{State, afterEvent, answerTo}
+
+-- only a refusal says that it is one
+said-refused : (a : Answer) (store : List ℕ) (n : ℕ) → said a store ≡ refused n → a ≡ Refused n
+unfolding said
+said-refused (Refused k) store n e = cc
+said-refused Opened store n e = cc
+said-refused Repeat store n e = cc
+said-refused Stored store n e = cc
+said-refused Bad store n e = cc
+said-refused (Message k) store n e = cc
+
+pub refused-changes-nothing : (s : State) (e : Event) (n : ℕ) → answerTo s e ≡ refused n → afterEvent s e ≡ s
+unfolding answerTo afterEvent
+refused-changes-nothing s (header h) n e =
+    ap (λ (x : Step). record { receiver = x .receiver; store = s .store })
+    (claims .header-refused (s .receiver) h n (said-refused (onHeader (s .receiver) h .answer) (s .store) n e))
+refused-changes-nothing s (block b) n e =
+    let x : Left = onBlock (s .receiver) (s .store) b in
+    ap (λ (x : Left). record { receiver = x .step .receiver; store = x .store })
+    (claims .block-refused (s .receiver) (s .store) b n (said-refused (x .step .answer) (x .store) n e))
+refused-changes-nothing s ended n e = refl
