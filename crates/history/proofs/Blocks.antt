@@ -24,11 +24,11 @@ use Rattle.transactions.proofs.FlagOctets.{flagged-with, octets-with, length-wi
 use Rattle.receiver.specs.Receiver.{storeSize, noFlags, held, allHeld, transactionGood}
 use Rattle.receiver.specs.Events.{said, answered, changed, blockAt, putBlock, blockNumber, completed, taken, onBlock}
 use Rattle.receiver.specs.declared.event.Answer.the-variants.{Bad, Message}
+use Rattle.receiver.proofs.StoreBlocks.{length-put, at-put-same, at-put-other}
 use Rattle.history.specs.History.{History, block, holds, heldData, valid, keeping, whole, messageOf, afterBlock, after, keptNumber, handedOn, blockSaid, saidTo}
 use Rattle.history.specs.Run.{State, afterEvent, answerTo}
 use Rattle.history.specs.Claims.{Agrees}
 use Rattle.history.proofs.Kept.{holds-more, first-stays, new-data}
-use Rattle.history.proofs.Store.{length-put, put-same, put-other}
 use Rattle.history.proofs.Sound.{Sound, good-blocks, open-fields}
 use Rattle.history.proofs.Follows.{Follows, none-octets, agrees-empty, store-message, good}
 use Rattle.history.proofs.Steps.{Matches}
@@ -39,7 +39,7 @@ unlooked phase t true x y b h = rw (h refl)
 unlooked phase t false x y b h = unfold takenNumber takenTests in refl
 
 -- a block that no check refuses is valid
-valid-of : (p : History) (held : Bool) (x b : List ℕ) → takenNumber (p .phase) (p .transaction) held x b ≡ 0 → valid p b ≡ true
+pub valid-of : (p : History) (held : Bool) (x b : List ℕ) → takenNumber (p .phase) (p .transaction) held x b ≡ 0 → valid p b ≡ true
 unfolding takenNumber takenTests blockTests valid
 valid-of p held x b e =
     let e0 = passed _ _ _ e in
@@ -154,10 +154,10 @@ module _ (own : RadioAddress) (s : State) (p : History) (m : Follows own s p) (b
       octets-new i e =
           either (eqb (serialOf b) i)
           (λ t. let k : serialOf b ≡ i = eqb-true (serialOf b) i t in
-          ap (blockAt nextStore) (sym k) ∙ put-same (s .store) (serialOf b) (dataOf b) fits size
+          ap (blockAt nextStore) (sym k) ∙ at-put-same (s .store) (serialOf b) (dataOf b) fits size
           ∙ sym (new-data (p .kept) _ i (rw k at new) t))
           (λ t. let h : holds (p .kept) i ≡ true = rw (holds-more, t) at e in
-          put-other (s .store) (serialOf b) (dataOf b) fits size i (λ k. eqb-false (serialOf b) i t (sym k))
+          at-put-other (s .store) (serialOf b) (dataOf b) fits size i (λ k. eqb-false (serialOf b) i t (sym k))
           (omega (arith, m .sound .below i h, good-blocks (p .transaction) fields, m .room))
           ∙ m .agrees .octets i h ∙ sym (first-stays (p .kept) _ i h))
 

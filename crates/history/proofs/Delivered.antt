@@ -20,23 +20,28 @@ use Rattle.packets.specs.declared.message.Delivery.{Delivery}
 use Rattle.packets.proofs.HeaderClaims.{claims as headers}
 use Rattle.packets.proofs.BlockClaims.{claims as blocks}
 use Rattle.packets.proofs.MessageClaims.{messages}
-use Rattle.packets.proofs.HeaderBack.{written-format, written-last, written-common}
+use Rattle.packets.proofs.HeaderBack.{written-format, written-last, written-common, written-octets}
 use Rattle.packets.proofs.BlockBack.{written-length, written-good}
 use Rattle.transactions.specs.Transactions.{transactionOf, isFull, heardTests, heardNumber, repeats, serialOf, dataOf, takenTests, takenNumber, all}
 use Rattle.transactions.specs.Answers.{Said, opened, stored, message}
 use Rattle.transactions.specs.declared.header.Transaction.{Transaction}
 use Rattle.transactions.proofs.Order.{header-run, every-stops}
 use Rattle.history.specs.History.{Kept, History, nothing, holds, heldData, opens, afterHeader, keeping, whole, messageOf, afterBlock, after, headerSaid, keptNumber, handedOn, blockSaid, saidTo, saidFrom}
-use Rattle.history.specs.Claims.{blockEvents, sending}
+use Rattle.history.specs.Claims.{Octets, blockEvents, sending}
 use Rattle.history.proofs.Once.{taken-valid}
-use Rattle.history.proofs.KeptInOrder.{keptTo, none-from, all-below, data-below, joined-ext}
+use Rattle.history.proofs.Kept.{joined-ext}
+use Rattle.history.proofs.KeptInOrder.{keptTo, none-from, all-below, data-below}
 
 -- the transaction of a message, and the history after its header and its first k blocks
-unfoldable sent : List ℕ → Delivery → Transaction
+unfoldable pub sent : List ℕ → Delivery → Transaction
 sent m d = record { source = d .source; sap = d .sap; ns = d .ns; pad = padOf (length m); blocks = blocksOf (length m) }
 
-unfoldable before : List ℕ → Delivery → ℕ → History
+unfoldable pub before : List ℕ → Delivery → ℕ → History
 before m d k = record { phase = 1; transaction = sent m d; kept = keptTo m k }
+
+pub sent-size : (m : List ℕ) (d : Delivery) → blockSize * sent m d .blocks - checkSize - sent m d .pad ≡ length m
+unfolding sent
+sent-size m d = omega (arith, messages .filled (length m))
 
 -- ---- the header
 
@@ -84,9 +89,12 @@ module _ (m : List ℕ) (d : Delivery) (short : length m ≤ mostOctets) (within
   unfolding headerSaid repeats nothing
   header-said = rw (heard, full)
 
-  after-header : afterHeader (d .destination) nothing h ≡ before m d 0
+  pub after-header : afterHeader (d .destination) nothing h ≡ before m d 0
   unfolding afterHeader opens all repeats nothing before keptTo
   after-header = rw (heard, full, of-header)
+
+  pub header-octets : Octets h
+  header-octets = written-octets said fits
 
 -- ---- a block
 
@@ -136,7 +144,7 @@ module _ (m : List ℕ) (d : Delivery) (short : length m ≤ mostOctets) (k : �
     unfolding blockSaid before
     block-said = rw (number-zero, new, keeping-is, not-whole)
 
-    after-block : afterBlock (before m d k) b ≡ before m d (suc k)
+    pub after-block : afterBlock (before m d k) b ≡ before m d (suc k)
     unfolding afterBlock before
     after-block = rw (taken-valid (before m d k) b number-zero, keeping-is, not-whole)
 
@@ -152,15 +160,11 @@ module _ (m : List ℕ) (d : Delivery) (short : length m ≤ mostOctets) (k : �
         joined-ext (heldData (keptTo m (suc k))) (blockData m) (blocksOf (length m)) (λ n l. data-below m (suc k) n (omega arith))
         ∙ messages .blocks-joined m
 
-    size : blockSize * sent m d .blocks - checkSize - sent m d .pad ≡ length m
-    unfolding sent
-    size = omega (arith, messages .filled (length m))
-
     handed-on : handedOn (sent m d) (keptTo m (suc k)) ≡ m
     unfolding handedOn
-    handed-on = ap₂ take size laid-out ∙ messages .front m
+    handed-on = ap₂ take (sent-size m d) laid-out ∙ messages .front m
 
-    last-said : blockSaid (before m d k) b ≡ message m
+    pub last-said : blockSaid (before m d k) b ≡ message m
     unfolding blockSaid before
     last-said = rw (number-zero, new, keeping-is, is-whole, laid-out, messages .good m, handed-on)
 

@@ -12,19 +12,20 @@ use Rattle.addresses.specs.declared.RadioAddress.{RadioAddress}
 use Rattle.codes.specs.Order.{every}
 use Rattle.codes.proofs.Tests.{every-true}
 use Rattle.packets.specs.Messages.{blockSize}
+use Rattle.packets.proofs.MessageLayout.{joined-parts}
+use Rattle.packets.proofs.Octets.{octets-zeros}
 use Rattle.transactions.specs.Flags.{flagOctetCount, flagCount, flagged}
 use Rattle.transactions.specs.declared.header.Transaction.{Transaction}
 use Rattle.transactions.proofs.Tests.{either, never}
 use Rattle.transactions.proofs.Order.{all-nil, all-cons}
 use Rattle.transactions.proofs.FlagOctets.{flagged-none}
-use Rattle.receiver.specs.Receiver.{storeSize, noFlags, noTransaction, freshReceiver, held, allHeld, noneFrom, receiverGood}
+use Rattle.receiver.specs.Receiver.{storeSize, noFlags, noTransaction, freshReceiver, freshFor, held, allHeld, noneFrom, receiverGood}
 use Rattle.receiver.specs.Events.{blockAt}
 use Rattle.stored.specs.Claims.{Savable}
 use Rattle.history.specs.History.{History, nothing, holds, heldData, whole, messageOf}
 use Rattle.history.specs.Run.{State}
 use Rattle.history.specs.Claims.{Octets, Agrees, freshState}
 use Rattle.history.proofs.Kept.{holds-none, whole-at, joined-ext}
-use Rattle.history.proofs.Store.{joined-at}
 use Rattle.history.proofs.Sound.{Sound, sound-nothing}
 
 pub record Follows (own : RadioAddress) (s : State) (p : History) : Type 0 where
@@ -40,13 +41,8 @@ where-so : (t u : Bool) → (t ≡ true → u ≡ true) → cond t u true ≡ tr
 where-so true u h = h refl
 where-so false u h = refl
 
-zeros-small : (k i : ℕ) → getD (replicate {A = ℕ} k 0) i 0 < 256
-zeros-small zero i = omega arith
-zeros-small (suc k) zero = omega arith
-zeros-small (suc k) (suc i) = zeros-small k i
-
 pub none-octets : Octets noFlags
-none-octets = zeros-small flagOctetCount
+none-octets = octets-zeros flagOctetCount
 
 -- a receiver with nothing held and a history with nothing kept
 pub agrees-empty : (own : RadioAddress) (phase : ℕ) (t : Transaction) (store : List ℕ)
@@ -59,6 +55,10 @@ agrees-empty own phase t store = record {
   flags = λ n. flagged-none n ∙ sym (holds-none n);
   octets = λ n e. never e (holds-none n);
 }
+
+pub fresh-fits : (own : RadioAddress) → own .0 < 2 ^ 24 → freshFor own ≡ record { number = 0; receiver = freshReceiver own }
+unfolding freshFor
+fresh-fits own h = rw (lt-ltb (own .0) (2 ^ 24) h)
 
 -- a fresh receiver follows the history that has seen nothing
 pub fresh-follows : (own : RadioAddress) (store : List ℕ) → own .0 < 2 ^ 24 → length store ≡ storeSize → Follows own (freshState own store) nothing
@@ -75,9 +75,9 @@ fresh-follows own store small room = record {
 -- the store's first blocks are the message
 pub store-message : (own : RadioAddress) (s : State) (p : History) → Agrees own s p → whole (p .transaction) (p .kept) ≡ true
     → take (blockSize * p .transaction .blocks) (s .store) ≡ messageOf (p .transaction) (p .kept)
-unfolding messageOf
+unfolding messageOf blockAt
 store-message own s p a w =
-    sym (joined-at (s .store) (p .transaction .blocks))
+    sym (joined-parts blockSize (s .store) (p .transaction .blocks))
     ∙ joined-ext (blockAt (s .store)) (heldData (p .kept)) (p .transaction .blocks)
     (λ n l. a .octets n (whole-at (p .transaction) (p .kept) w n l))
 

@@ -1,5 +1,4 @@
 pub mod Kept
-pub mod Store
 pub mod Sound
 pub mod Follows
 pub mod Steps
@@ -10,5 +9,6 @@ pub mod Refused
 pub mod Once
 pub mod KeptInOrder
 pub mod Delivered
+pub mod LoopingBack
 pub mod Examples
 pub mod Claims

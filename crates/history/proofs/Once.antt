@@ -4,20 +4,20 @@ use mathlib.Core.Path.{_≡_, refl}
 use mathlib.Core.Bool.{Bool, true, false, cond, not}
 use mathlib.Core.List.{List, [], _∷_}
 use Prim.Native.Nat.{ℕ, _*_}
-use lib.Dec.{eqb, ltb}
-use lib.ListN.{length, take}
+use lib.Dec.{eqb}
+use lib.ListN.{take}
 use borrow.Author.Tests.{eqb-true}
 use Rattle.addresses.specs.declared.RadioAddress.{RadioAddress}
-use Rattle.codes.specs.Checks.{blockGood, messageGood}
-use Rattle.packets.specs.Blocks.{blockTests}
+use Rattle.codes.specs.Checks.{messageGood}
 use Rattle.packets.specs.declared.response.ResponseOctets.{ResponseOctets}
-use Rattle.transactions.specs.Transactions.{all, transactionOf, isFull, heardNumber, repeats, serialOf, takenTests, takenNumber}
+use Rattle.transactions.specs.Transactions.{all, transactionOf, isFull, heardNumber, repeats, serialOf}
 use Rattle.transactions.specs.Answers.{Said, refused, opened, repeat, stored, bad, message, response, responseTo, responseSaid}
 use Rattle.transactions.specs.declared.header.Transaction.{Transaction}
 use Rattle.transactions.proofs.Tests.{never}
-use Rattle.transactions.proofs.Order.{all-nil, all-cons, all-at, passed}
-use Rattle.history.specs.History.{Event, header, block, ended, Kept, History, nothing, holds, opens, afterHeader, valid, keeping, whole, messageOf, afterBlock, after, headerSaid, keptNumber, handedOn, blockSaid, saidTo, saidFrom}
+use Rattle.transactions.proofs.Order.{all-at}
+use Rattle.history.specs.History.{Event, header, block, ended, Kept, History, nothing, holds, heldData, opens, afterHeader, valid, keeping, whole, messageOf, afterBlock, after, headerSaid, keptNumber, handedOn, blockSaid, saidTo, saidFrom}
 use Rattle.history.specs.Claims.{Once}
+use Rattle.history.proofs.Blocks.{valid-of}
 
 -- where no message can be handed on before an opening, at most one is
 weaker : (done : Bool) (ss : List Said) → Once done ss → Once false ss
@@ -37,13 +37,8 @@ shut p = not (eqb (p .phase) 1)
 
 -- a block that no number is given for is valid
 pub taken-valid : (p : History) (b : List ℕ) → keptNumber p b ≡ 0 → valid p b ≡ true
-unfolding keptNumber takenNumber takenTests blockTests valid
-taken-valid p b e =
-    let size = passed (eqb (length b) 12) 0 _ e in
-    let check = passed (blockGood b) 12 _ (size .1) in
-    let phase = passed (eqb (p .phase) 1) 11 _ (check .1) in
-    let number = passed (ltb (serialOf b) (p .transaction .blocks)) 13 _ (phase .1) in
-    all-cons _ (size .0) (all-cons _ (check .0) (all-cons _ (phase .0) (all-cons _ (number .0) all-nil)))
+unfolding keptNumber
+taken-valid p b e = valid-of p (holds (p .kept) (serialOf b)) (heldData (p .kept) (serialOf b)) b e
 
 -- a valid block's transaction is open
 valid-open : (p : History) (b : List ℕ) → valid p b ≡ true → eqb (p .phase) 1 ≡ true

@@ -1,14 +1,12 @@
 -- A restart leaves a receiver that follows the same history.
 -- Assumes nothing.
-use mathlib.Core.Path.{_≡_, refl, ap, _∙_}
-use mathlib.Core.Bool.{Bool}
+use mathlib.Core.Path.{_≡_, _∙_}
 use mathlib.Core.List.{List}
-use Prim.Native.Nat.{ℕ, zero, suc}
+use Prim.Native.Nat.{ℕ}
 use native.Mathlib.Omega.{arith}
-use lib.ListN.{length, getD}
+use lib.ListN.{length}
 use Rattle.addresses.specs.declared.RadioAddress.{RadioAddress}
-use Rattle.receiver.specs.Receiver.{storeSize, held}
-use Rattle.stored.specs.Stored.{heldOctets}
+use Rattle.receiver.specs.Receiver.{storeSize}
 use Rattle.stored.specs.Claims.{heldStore, Restores}
 use Rattle.stored.proofs.Claims.{claims}
 use Rattle.stored.proofs.HeldOctets.{length-heldStore}

@@ -2,7 +2,7 @@
 -- Assumes nothing.
 use mathlib.Core.Bool.{Bool, true, false, cond, not}
 use mathlib.Core.List.{List, [], _∷_, _++_}
-use Prim.Native.Nat.{ℕ, zero, suc, _*_, _-_}
+use Prim.Native.Nat.{ℕ, _*_, _-_}
 use lib.Dec.{eqb, ltb}
 use lib.ListN.{length, take}
 use Rattle.addresses.specs.declared.RadioAddress.{RadioAddress}

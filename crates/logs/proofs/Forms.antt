@@ -11,11 +11,11 @@ use Rattle.packets.specs.Messages.{blockSize}
 use Rattle.transactions.specs.Flags.{flagged, flagOctets}
 use Rattle.transactions.specs.declared.header.Transaction.{Transaction}
 use Rattle.transactions.proofs.FlagOctets.{octets-of-flags}
+use Rattle.receiver.proofs.StoreBlocks.{getD-at}
 use Rattle.stored.specs.Stored.{firstPart, heldOctets, body0, body1, storedForm, saved}
 use Rattle.history.specs.History.{History, holds, heldData}
 use Rattle.history.specs.Run.{State, savedForm}
 use Rattle.logs.specs.Log.{historyForm}
-use Rattle.history.proofs.Store.{getD-at}
 use Rattle.history.proofs.Follows.{Follows, held-is}
 
 -- octets that are equal where they are held

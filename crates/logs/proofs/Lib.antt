@@ -1,6 +1,7 @@
 pub mod Forms
 pub mod Lists
 pub mod Records
+pub mod Claims
 pub mod Lines
 pub mod OneRecord
 pub mod Replays

@@ -4,11 +4,10 @@ use mathlib.Core.Path.{_≡_, refl}
 use mathlib.Core.Bool.{true, false}
 use mathlib.Core.List.{List, [], _∷_}
 use mathlib.Core.Logic.{_≢_}
-use Prim.Native.Nat.{ℕ, _+_, _*_, _^_, _<_}
+use Prim.Native.Nat.{ℕ, _+_, _*_, _^_}
 use lib.Dec.{eqb}
 use lib.ListN.{length, getD, drop}
-use borrow.Author.Tests.{eq-eqb, ne-eqb, lt-ltb, eqb-true, ltb-true}
-use Rattle.addresses.specs.declared.RadioAddress.{RadioAddress}
+use borrow.Author.Tests.{eq-eqb, ne-eqb, eqb-true, ltb-true}
 use Rattle.codes.specs.Order.{firstFailed}
 use Rattle.transactions.specs.Transactions.{all}
 use Rattle.transactions.proofs.Tests.{either}
@@ -17,7 +16,10 @@ use Rattle.receiver.specs.Receiver.{storeSize, freshReceiver, freshFor, receive
 use Rattle.receiver.specs.declared.state.Receiver.{Receiver}
 use Rattle.stored.specs.Stored.{storedBlock, saved, saveNumber, afterSave, restored, afterRestore}
 use Rattle.history.specs.History.{header, block, ended}
-use Rattle.history.specs.Run.{event, savedForm, afterRestart}
+use Rattle.history.specs.Run.{event, restart, State, savedForm, afterRestart}
+use Rattle.history.proofs.Claims.{claims}
+use Rattle.history.proofs.Follows.{fresh-fits}
+use Rattle.logs.specs.Claims.{RecordRefused}
 use Rattle.logs.specs.Log.{Record, act, none, restartOf, recordOf, lineOf, afterRecord, lineSize, lineIn, recordNumber, stateOf, recorded, recordStore, recordLine}
 use Rattle.logs.specs.declared.recording.Recorded.{Recorded}
 
@@ -57,10 +59,6 @@ module _ (kind : ℕ) (os : List ℕ) where
 
 -- ---- a restart
 
-pub fresh-fits : (own : RadioAddress) → own .0 < 2 ^ 24 → freshFor own ≡ record { number = 0; receiver = freshReceiver own }
-unfolding freshFor
-fresh-fits own h = rw (lt-ltb (own .0) (2 ^ 24) h)
-
 module _ (rx : Receiver) (good : receiverGood rx ≡ true) where
   pub fresh-of : freshFor (rx .own) ≡ record { number = 0; receiver = freshReceiver (rx .own) }
   unfolding receiverGood
@@ -80,14 +78,21 @@ restart-leaves rx store os next form other e f g = rw (e, f, g) (refl, refl)
 
 -- ---- what is recorded
 
+record-refused : (s : State) (r : Record) → RecordRefused s r
+unfolding lineOf afterRecord
+record-refused s (act (event e)) n h = claims .refused-changes-nothing s e n cc
+record-refused s (act (restart s0 s1 store)) n h = cc
+record-refused s none n h = refl
+
 module _ (rx : Receiver) (store : List ℕ) (r : Record) (line : List ℕ) where
-  -- the receiver, the store and the line are those that `recorded` tells
+  -- what `record` ensures: the receiver, the store and the line are those that `recorded` tells, and a refused record changes nothing
   abbrev pub Tells : Recorded → List ℕ → List ℕ → Type 0
-  Tells out store′ line′ = (out ≡ recorded rx store r line) × (store′ ≡ recordStore rx store r line) × (line′ ≡ recordLine rx store r line)
+  Tells out store′ line′ =
+      (out ≡ recorded rx store r line) × (store′ ≡ recordStore rx store r line) × (line′ ≡ recordLine rx store r line) × RecordRefused (stateOf rx store) r
 
   refused-tells : recordNumber rx store line ≡ 1 → Tells (record { number = 1; receiver = rx }) store line
   unfolding recorded recordStore recordLine
-  refused-tells e = rw e (refl, refl, refl)
+  refused-tells e = rw e (refl, refl, refl, record-refused (stateOf rx store) r)
 
   pub bad-receiver : receiverGood rx ≡ false → Tells (record { number = 1; receiver = rx }) store line
   unfolding recordNumber firstFailed
@@ -111,4 +116,4 @@ module _ (rx : Receiver) (store : List ℕ) (r : Record) (line : List ℕ) where
         pub taken-tells : Tells (record { number = 0; receiver = afterRecord (stateOf rx store) r .receiver }) (afterRecord (stateOf rx store) r .store)
             (lineIn (lineOf (stateOf rx store) r))
         unfolding recorded recordStore recordLine
-        taken-tells = rw taken-number (refl, refl, refl)
+        taken-tells = rw taken-number (refl, refl, refl, record-refused (stateOf rx store) r)

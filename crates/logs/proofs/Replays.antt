@@ -1,59 +1,40 @@
 -- A replay against the history rule: a record of a receiver that follows a history, and a report part of the way through a log.
 -- Assumes nothing.
 use mathlib.Core.Path.{_≡_, refl, sym, ap, ap₂, subst, _∙_}
-use mathlib.Core.Bool.{true}
 use mathlib.Core.List.{List, [], _∷_, _++_, append-nil, append-assoc}
 use mathlib.Core.Logic.{_≢_}
 use Prim.Native.Nat.{ℕ, _+_, _*_, _-_, _^_, _≤_, _<_}
 use native.Mathlib.Omega.{arith}
 use native.Mathlib.Nat.{add-sub-of-le, mul-zero, mul-one, mul-add, not-suc-le-zero}
-use lib.Dec.{eqb}
 use lib.ListN.{length, take, drop, length-append, length-drop}
 use lib.Seq.{take-at, drop-at, drop-drop}
-use borrow.Author.Tests.{eqb-true, lt-leb, le-leb}
+use borrow.Author.Tests.{lt-leb, le-leb}
 use Rattle.addresses.specs.Octets.{addressAt}
 use Rattle.addresses.specs.declared.RadioAddress.{RadioAddress}
 use Rattle.packets.proofs.Octets.{octets-take, octets-drop}
-use Rattle.transactions.specs.Transactions.{all}
-use Rattle.transactions.proofs.Tests.{either}
-use Rattle.transactions.proofs.Order.{all-at}
 use Rattle.receiver.specs.Receiver.{storeSize, freshReceiver, freshFor}
 use Rattle.receiver.specs.declared.state.Receiver.{Receiver}
 use Rattle.receiver.specs.declared.state.Fresh.{Fresh}
 use Rattle.history.specs.History.{History, nothing, after}
 use Rattle.history.specs.Run.{event, restart, State}
 use Rattle.history.specs.Claims.{Octets, freshState}
-use Rattle.logs.specs.Log.{Record, act, none, recordOf, recordsOf, Line, answer, restored, lineOf, afterRecord, linesFrom, lineSize, lineIn, report, stateOf, replayNumber, replayed, afterReplay}
+use Rattle.logs.specs.Log.{Record, act, none, recordsOf, Line, answer, restored, lineOf, afterRecord, linesFrom, lineSize, lineIn, report, stateOf, replayNumber, replayed, afterReplay}
+use Rattle.logs.specs.Claims.{LogClaims}
 use Rattle.logs.specs.Parts.{Cuts}
 use Rattle.logs.specs.declared.replaying.Cut.{Cut}
 use Rattle.logs.specs.declared.recording.Recorded.{Recorded}
-use Rattle.history.proofs.Follows.{Follows, fresh-follows, good}
+use Rattle.logs.specs.declared.replaying.Replayed.{Replayed}
+use Rattle.history.proofs.Follows.{Follows, fresh-fits, fresh-follows, good}
 use Rattle.history.proofs.Restart.{restart-follows}
 use Rattle.logs.proofs.Forms.{form-is}
-use Rattle.history.proofs.Demand3.{Given, event-step}
+use Rattle.history.proofs.Demand3.{event-step}
+use Rattle.logs.proofs.Claims.{GivenRecord, given-record, own-fits, log-claims}
 use Rattle.logs.proofs.Records.{following, follows-own, more-follow, cutOf, cut-follows}
-use Rattle.logs.proofs.OneRecord.{fresh-fits, Tells, taken-tells}
+use Rattle.logs.proofs.OneRecord.{Tells, taken-tells}
 
 length-none : {A : Type 0} (l : List A) → length l ≤ 0 → l ≡ []
 length-none [] h = refl
 length-none (x ∷ l) h = absurd (not-suc-le-zero h)
-
--- a record of octets, where a restart's store has its size
-abbrev pub GivenRecord : Record → Type 0
-GivenRecord (act (event e)) = Given e
-GivenRecord (act (restart s0 s1 store)) = length store ≡ storeSize
-GivenRecord none = Unit
-
-restart-size : (kind : ℕ) (os : List ℕ) → all (eqb kind 3 ∷ eqb (length os) (2 + storeSize) ∷ []) ≡ true → length (drop 2 os) ≡ storeSize
-restart-size kind os t = omega (arith, length-drop 2 os, eqb-true (length os) (2 + storeSize) (all-at _ 1 t))
-
-pub given-record : (kind : ℕ) (os : List ℕ) → Octets os → GivenRecord (recordOf kind os)
-unfolding recordOf
-given-record kind os o =
-    either (eqb kind 0) (λ a. rw a o)
-    (λ a. rw a (either (eqb kind 1) (λ b. rw b o)
-    (λ b. rw b (either (all (eqb kind 2 ∷ eqb (length os) 0 ∷ [])) (λ d. rw d tt)
-    (λ d. rw d (either (all (eqb kind 3 ∷ eqb (length os) (2 + storeSize) ∷ [])) (λ e. rw e (restart-size kind os e)) (λ e. rw e tt)))))))
 
 -- the history after a record
 unfoldable pub historyAfter : RadioAddress → History → Record → History
@@ -165,7 +146,7 @@ pub midway-fresh : (log before store : List ℕ) (n : ℕ) (a : RadioAddress) (f
     → length store ≡ storeSize → n ≡ length (recordsOf log) → Midway (addressAt log 0) log before n 0 3 (stateOf (f .receiver) store) before
 midway-fresh log before store n a f o ea ef room count =
     let own = addressAt log 0 in
-    let small : own .0 < 2 ^ 24 = omega (arith, o 0, o 1, o 2) in
+    let small = own-fits log o in
     let ra : a ≡ own = ap (λ (k : ℕ). record { 0 = k }) ea in
     let rf : f .receiver ≡ freshReceiver own = ap (λ (x : Fresh). x .receiver) (ef ∙ ap freshFor ra ∙ fresh-fits own small) in
     subst (λ (r : Receiver). Midway own log before n 0 3 (stateOf r store) before) (sym rf) (midway-start own log before n store small room count)
@@ -183,24 +164,29 @@ module _ (own : RadioAddress) (log before : List ℕ) (n i at : ℕ) (rx : Recei
 pub records-inside : (log : List ℕ) → length (recordsOf log) ≢ 0 → 3 < length log
 records-inside log h = more-follow log 3 (λ e. h (ap length (sym (follows-own log)) ∙ e))
 
-module _ (log lent : List ℕ) where
-  pub no-room : length lent < lineSize * length (recordsOf log) → (record { number = 1; records = 0 } ≡ replayed log lent) × (lent ≡ afterReplay log lent)
+module _ (log lent : List ℕ) (o : Octets log) where
+  -- what `replay` ensures
+  abbrev pub Replays : Replayed → List ℕ → Type 0
+  Replays out os = (out ≡ replayed log lent) × (os ≡ afterReplay log lent) × ((store : List ℕ) → length store ≡ storeSize → LogClaims log store)
+
+  pub no-room : length lent < lineSize * length (recordsOf log) → Replays (record { number = 1; records = 0 }) lent
   unfolding replayed afterReplay replayNumber
-  no-room h = rw (lt-leb (lineSize * length (recordsOf log)) (length lent) h) (refl, refl)
+  no-room h = rw (lt-leb (lineSize * length (recordsOf log)) (length lent) h) (refl, refl, log-claims log o)
 
   module _ (n : ℕ) (count : n ≡ length (recordsOf log)) (room : lineSize * length (recordsOf log) ≤ length lent) where
     pub whole-report : (os : List ℕ) → os ≡ report (linesFrom (addressAt log 0) nothing (recordsOf log)) ++ drop (lineSize * n) lent
-        → (record { number = 0; records = n } ≡ replayed log lent) × (os ≡ afterReplay log lent)
+        → Replays (record { number = 0; records = n }) os
     unfolding replayed afterReplay replayNumber
     whole-report os e =
         rw (le-leb (lineSize * length (recordsOf log)) (length lent) room) (
           ap (λ (k : ℕ). record { number = 0; records = k }) count,
           e ∙ ap (λ (k : ℕ). report (linesFrom (addressAt log 0) nothing (recordsOf log)) ++ drop (lineSize * k) lent) count,
+          log-claims log o,
         )
 
-    pub empty-report : n ≡ 0 → (record { number = 0; records = 0 } ≡ replayed log lent) × (lent ≡ afterReplay log lent)
+    pub empty-report : n ≡ 0 → Replays (record { number = 0; records = 0 }) lent
     unfolding report linesFrom
     empty-report z =
         let e : recordsOf log ≡ [] = length-none (recordsOf log) (omega arith) in
         let w = whole-report lent (rw (e, z)) in
-        (ap (λ (k : ℕ). record { number = 0; records = k }) (sym z) ∙ w .0, w .1)
+        (ap (λ (k : ℕ). record { number = 0; records = k }) (sym z) ∙ w .0, w .1, w .2)

@@ -1,2 +1,3 @@
 pub mod Log
+pub mod Claims
 pub mod Parts

@@ -16,7 +16,7 @@ use Rattle.transactions.specs.Answers.{Said, refused, opened, repeat, stored, b
 use Rattle.receiver.specs.Receiver.{storeSize, receiverGood}
 use Rattle.receiver.specs.declared.state.Receiver.{Receiver}
 use Rattle.stored.specs.Stored.{storedBlock, storedForm}
-use Rattle.history.specs.History.{Event, header, block, ended, History, nothing, holds, heldData, after, saidTo}
+use Rattle.history.specs.History.{header, block, ended, History, nothing, holds, heldData, after, saidTo}
 use Rattle.history.specs.Run.{Action, event, restart, State, afterEvent, answerTo, savedForm, afterRestart}
 use Rattle.logs.specs.declared.recording.Recorded.{Recorded}
 use Rattle.logs.specs.declared.replaying.Replayed.{Replayed}
@@ -51,6 +51,12 @@ recordsFrom (suc k) os =
 -- the records behind the own address; none where the address is cut short
 unfoldable pub recordsOf : List ℕ → List Record
 recordsOf log = recordsFrom (length log) (drop 3 log)
+
+-- the actions of a list of records
+unfoldable pub actionsOf : List Record → List Action
+actionsOf [] = []
+actionsOf (act a ∷ rest) = a ∷ actionsOf rest
+actionsOf (none ∷ rest) = actionsOf rest
 
 -- ---- what is reported
 

@@ -4,7 +4,7 @@ use mathlib.Core.Path.{_≡_}
 use mathlib.Core.List.{List, _∷_}
 use Prim.Native.Nat.{ℕ, suc, _-_, _≤_, _<_}
 use lib.ListN.{length, take, drop}
-use Rattle.logs.specs.Log.{Record, recordOf, recordsFrom}
+use Rattle.logs.specs.Log.{recordOf, recordsFrom}
 use Rattle.logs.specs.declared.replaying.Cut.{Cut}
 
 -- the record at a place of a log: what it is, and that the records after it follow

@@ -5,14 +5,15 @@ ghost use mathlib.Core.Bool.{true, cond};
 ghost use mathlib.Core.List.{_++_};
 ghost use Prim.Native.Nat.{_+_, _*_, _≤_};
 ghost use lib.Dec.{ltb};
-ghost use lib.ListN.{length, getD, drop};
+ghost use lib.ListN.{length, getD};
 ghost use Rattle.transactions.specs.Answers.{refused, responseSaid};
 ghost use Rattle.receiver.specs.Receiver.{storeSize, receiverGood};
 ghost use Rattle.receiver.specs.Events.{said};
 ghost use Rattle.stored.specs.Stored.{storedBlock};
-ghost use Rattle.history.specs.History.{header, block, ended};
-ghost use Rattle.history.specs.Run.{event, restart};
-ghost use Rattle.logs.specs.Log.{lineSize, answer, restored, act, none, recordOf, lineOctets, lineIn, lineOf, restartOf, afterRecord, stateOf, recorded, recordStore, recordLine};
+ghost use Rattle.history.specs.History.{header, block};
+ghost use Rattle.history.specs.Run.{event};
+ghost use Rattle.logs.specs.Claims.{RecordRefused};
+ghost use Rattle.logs.specs.Log.{lineSize, answer, restored, act, recordOf, lineOctets, lineIn, lineOf, restartOf, afterRecord, stateOf, recorded, recordStore, recordLine};
 use packets::response::ResponseOctets;
 use receiver::event::Answer;
 use receiver::state::Receiver;
@@ -234,7 +235,8 @@ pub struct Recorded {
 pub fn record(rx: Receiver, store: &mut [u8], kind: u8, octets: &[u8], line: &mut [u8]) -> Recorded
     ensures { λ r. ⌜ (r ≡ recorded rx (now (store .entry)) (recordOf kind (now (octets .entry))) (now (line .entry)))
         × (now (store .exit) ≡ recordStore rx (now (store .entry)) (recordOf kind (now (octets .entry))) (now (line .entry)))
-        × (now (line .exit) ≡ recordLine rx (now (store .entry)) (recordOf kind (now (octets .entry))) (now (line .entry))) ⌝ }
+        × (now (line .exit) ≡ recordLine rx (now (store .entry)) (recordOf kind (now (octets .entry))) (now (line .entry)))
+        × RecordRefused (stateOf rx (now (store .entry))) (recordOf kind (now (octets .entry))) ⌝ }
 {
     if !receiver::state::is_good(rx) {
         return Recorded {

@@ -1,8 +1,11 @@
 // The replay of a log: own address (3 octets), then records of kind (1 octet: 0 header, 1 block, 2 end of attempt, 3 restart), length
 // (2 octets, most significant first) and that many octets.
 ghost use mathlib.Core.Path.{_≡_};
-ghost use Prim.Native.Nat.{_<_};
+ghost use mathlib.Core.List.{List};
+ghost use Prim.Native.Nat.{ℕ, _<_};
 ghost use lib.ListN.{length};
+ghost use Rattle.receiver.specs.Receiver.{storeSize};
+ghost use Rattle.logs.specs.Claims.{LogClaims};
 ghost use Rattle.logs.specs.Log.{recordsOf, replayed, afterReplay};
 ghost use Rattle.logs.specs.Parts.{Cuts};
 use crate::recording::LINE;
@@ -67,7 +70,8 @@ fn count(log: &[u8]) -> usize
 // has no room for a line a record.
 pub fn replay(log: &[u8], report: &mut [u8]) -> Replayed
     ensures { λ r. ⌜ (r ≡ replayed (now (log .entry)) (now (report .entry)))
-        × (now (report .exit) ≡ afterReplay (now (log .entry)) (now (report .entry))) ⌝ }
+        × (now (report .exit) ≡ afterReplay (now (log .entry)) (now (report .entry)))
+        × ((store : List ℕ) → length store ≡ storeSize → LogClaims (now (log .entry)) store) ⌝ }
 {
     let n = count(log);
     if report.len() / LINE < n {

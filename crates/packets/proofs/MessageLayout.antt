@@ -35,7 +35,7 @@ module _ (n : ℕ) where
   small-pad = omega arith
 
 -- parts of equal size, joined
-joined-parts : (s : ℕ) (l : List ℕ) (k : ℕ) → joined (λ i. take s (drop (s * i) l)) k ≡ take (s * k) l
+pub joined-parts : (s : ℕ) (l : List ℕ) (k : ℕ) → joined (λ i. take s (drop (s * i) l)) k ≡ take (s * k) l
 unfolding joined
 joined-parts s l zero = rw mul-zero
 joined-parts s l (suc k) = rw (joined-parts s l k, mul-suc) (sym (take-add (s * k) s l))

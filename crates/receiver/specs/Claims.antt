@@ -6,7 +6,7 @@ use Prim.Native.Nat.{ℕ, _≤_}
 use Rattle.bursts.specs.Datagrams.{readDatagram}
 use Rattle.receiver.specs.declared.state.Receiver.{Receiver}
 use Rattle.receiver.specs.declared.event.Answer.the-variants.{Refused}
-use Rattle.receiver.specs.Events.{Left, answered, onHeader, onBlock, onDatagram}
+use Rattle.receiver.specs.Events.{answered, onHeader, onBlock, onDatagram}
 
 -- what a datagram can be to a receiver: refused with one of 1 to 7, and nothing changes; or exactly its header; or exactly its block
 pub data Arrives (rx : Receiver) (store d : List ℕ) : Type 0 where

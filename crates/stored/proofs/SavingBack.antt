@@ -7,11 +7,10 @@ use Prim.Native.Nat.{ℕ, zero, suc, _+_, _*_, _-_, _/_, _%_, _≤_, _<_}
 use native.Mathlib.Omega.{arith}
 use borrow.Author.Tests.{eqb-true}
 use lib.Dec.{ltb}
-use lib.ListN.{length, getD, take, drop, length-append, length-drop, take-append-drop, drop-of-length-le}
+use lib.ListN.{length, getD, take, drop, length-drop, take-append-drop, drop-of-length-le}
 use lib.Seq.{length-take-le, take-at, drop-at, take-all, take-add, drop-cons, getD-take, getD-drop, ext-getD}
 use Rattle.addresses.specs.Octets.{addressAt, threeOctets}
 use Rattle.polynomials.specs.Bits.{tabulate}
-use Rattle.polynomials.proofs.Runs.{tabulated}
 use Rattle.codes.specs.Order.{firstFailed}
 use Rattle.codes.specs.Checks.{headerCheck, headerGood}
 use Rattle.codes.proofs.HeaderChecks.{header-long}
@@ -23,6 +22,7 @@ use Rattle.receiver.specs.Receiver.{storeSize, held}
 use Rattle.receiver.specs.declared.state.Receiver.{Receiver}
 use Rattle.stored.specs.Stored.{storedBlock, checkedSize, firstPart, secondPart, zeroPart, storeAt0, storeAt1, zerosAt, withStoredCheck, heldOctets, body0, storedForm, saved, block0, block1, receiverIn, storeIn, zerosFrom, clear, layoutTests, restoreTests, restoreNumber}
 use Rattle.stored.proofs.HeldOctets.{held-all, clear-at, zerosFrom-at}
+use Rattle.stored.proofs.StoreReading.{part-tabulated, part0, part1, length-part0, length-part1, length-storeIn}
 use Rattle.stored.proofs.ReadingBack.{Starts, written0, written1, zeros, length-zeros, zeros-at, fields, head, head1, head-parts, written1-parts}
 
 later : (t u : Bool) → cond t u false ≡ true → u ≡ true
@@ -74,9 +74,6 @@ module _ (os : List ℕ) (n : ℕ) (size : length os ≡ n + 2) (small : Octets 
 three-parts : (l : List ℕ) (n m k : ℕ) → take n l ++ take m (drop n l) ++ take k (drop (n + m) l) ≡ take (n + m + k) l
 three-parts l n m k = ap (λ (x : List ℕ). x ++ take k (drop (n + m) l)) (sym (take-add n m l)) ∙ sym (take-add (n + m) k l)
 
-firsts : (l : List ℕ) (n : ℕ) → n ≤ length l → take n l ≡ tabulate n (λ i. getD l i 0)
-firsts l n h = tabulated n (λ i. getD l i 0) (take n l) (length-take-le n l h) (λ i k. getD-take n l i 0 k)
-
 -- ---- block 0 and block 1
 
 -- octet i of the store
@@ -87,34 +84,18 @@ module _ (a b : List ℕ) (size0 : length a ≡ storedBlock) (size1 : length b �
   abbrev rx : Receiver
   rx = receiverIn a
 
-  abbrev part0 : List ℕ
-  part0 = take firstPart (drop storeAt0 a)
-
-  abbrev part1 : List ℕ
-  part1 = take secondPart (drop storeAt1 b)
-
-  length-part0 : length part0 ≡ firstPart
-  length-part0 = length-take-le firstPart (drop storeAt0 a) (omega (arith, length-drop storeAt0 a))
-
-  length-part1 : length part1 ≡ secondPart
-  length-part1 = length-take-le secondPart (drop storeAt1 b) (omega (arith, length-drop storeAt1 b))
-
-  length-store : length (storeIn a b) ≡ storeSize
-  unfolding storeIn
-  length-store = length-append part0 part1 ∙ omega (arith, length-part0, length-part1)
-
   module _ (clean : clear rx (storeIn a b) storeSize ≡ true) (starts : Starts a b) where
     held-part : (at n : ℕ) → at + n ≤ storeSize → heldOctets (held rx) (octetIn a b) at n ≡ take n (drop at (storeIn a b))
     held-part at n h =
-        held-all (held rx) (storeIn a b) at n (omega (arith, length-store)) (λ i l e. clear-at rx (storeIn a b) storeSize clean i (omega arith) e)
+        held-all (held rx) (storeIn a b) at n (omega (arith, length-storeIn a b size0 size1)) (λ i l e. clear-at rx (storeIn a b) storeSize clean i (omega arith) e)
 
-    held0 : heldOctets (held rx) (octetIn a b) 0 firstPart ≡ part0
-    held0 = held-part 0 firstPart (omega arith) ∙ (unfold storeIn in take-at part0 part1 firstPart length-part0)
+    held0 : heldOctets (held rx) (octetIn a b) 0 firstPart ≡ part0 a
+    held0 = held-part 0 firstPart (omega arith) ∙ (unfold storeIn in take-at (part0 a) (part1 b) firstPart (length-part0 a size0))
 
-    held1 : heldOctets (held rx) (octetIn a b) firstPart secondPart ≡ part1
+    held1 : heldOctets (held rx) (octetIn a b) firstPart secondPart ≡ part1 b
     held1 =
         held-part firstPart secondPart (omega arith)
-        ∙ (unfold storeIn in ap (take secondPart) (drop-at part0 part1 firstPart length-part0) ∙ take-all secondPart part1 (omega (arith, length-part1)))
+        ∙ (unfold storeIn in ap (take secondPart) (drop-at (part0 a) (part1 b) firstPart (length-part0 a size0)) ∙ take-all secondPart (part1 b) (omega (arith, length-part1 b size1)))
 
     module _ (small : Octets a) where
       address-same : (i : ℕ) → threeOctets (addressAt a i .0) ≡ getD a i 0 ∷ getD a (i + 1) 0 ∷ getD a (i + 2) 0 ∷ []
@@ -126,7 +107,7 @@ module _ (a b : List ℕ) (size0 : length a ≡ storedBlock) (size1 : length b �
           ap₂ (λ (x y : List ℕ). (1 ∷ 0 ∷ getD a 2 0 ∷ getD a 3 0 ∷ getD a 4 0 ∷ []) ++ x ++ y ++ (getD a 11 0 ∷ getD a 12 0 ∷ getD a 13 0 ∷ getD a 14 0 ∷ []))
           (address-same 5) (address-same 8)
           ∙ ap₂ (λ (x y : ℕ). x ∷ y ∷ tabulate 13 (λ i. getD a (2 + i) 0)) (sym (starts .one0)) (sym (starts .index0))
-          ∙ sym (firsts a 15 (omega arith))
+          ∙ sym (part-tabulated a 0 15 (omega arith))
 
       head-same : head rx (getD a 2 0) (getD a 3 0) ≡ take storeAt0 a
       unfolding receiverIn
@@ -149,7 +130,7 @@ module _ (a b : List ℕ) (size0 : length a ≡ storedBlock) (size1 : length b �
       head1-same : head1 (getD b 2 0) (getD b 3 0) ≡ take storeAt1 b
       unfolding head1
       head1-same =
-          ap₂ (λ (x y : ℕ). x ∷ y ∷ getD b 2 0 ∷ getD b 3 0 ∷ []) (sym (starts .one1)) (sym (starts .index1)) ∙ sym (firsts b storeAt1 (omega arith))
+          ap₂ (λ (x y : ℕ). x ∷ y ∷ getD b 2 0 ∷ getD b 3 0 ∷ []) (sym (starts .one1)) (sym (starts .index1)) ∙ sym (part-tabulated b 0 storeAt1 (omega arith))
 
       pub written1-same : written1 rx (octetIn a b) (getD b 2 0) (getD b 3 0) ≡ take checkedSize b
       written1-same =

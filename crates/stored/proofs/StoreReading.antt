@@ -23,7 +23,7 @@ use Rattle.receiver.specs.declared.state.Receiver.{Receiver}
 use Rattle.stored.specs.Stored.{storedBlock, firstPart, secondPart, storeAt0, storeAt1, receiverIn, storeIn, zerosFrom, clear}
 
 -- the octets of a part
-part-tabulated : (os : List ℕ) (at n : ℕ) → at + n ≤ length os → take n (drop at os) ≡ tabulate n (λ i. getD os (at + i) 0)
+pub part-tabulated : (os : List ℕ) (at n : ℕ) → at + n ≤ length os → take n (drop at os) ≡ tabulate n (λ i. getD os (at + i) 0)
 part-tabulated os at n h =
     tabulated n (λ i. getD os (at + i) 0) (take n (drop at os)) (length-take-le n (drop at os) (omega (arith, length-drop at os)))
     (λ i l. getD-take n (drop at os) i 0 l ∙ getD-drop at os i 0)
@@ -48,31 +48,33 @@ module _ (p q : List ℕ) (n : ℕ) (size : length p ≡ n) where
       let e : i ≡ length p + (i - n) = omega arith in
       ap (λ (k : ℕ). getD (p ++ q) k 0) e ∙ getD-append-add p q (i - n) 0
 
-module _ (a b : List ℕ) (size-a : length a ≡ storedBlock) (size-b : length b ≡ storedBlock) where
-  abbrev part0 : List ℕ
-  part0 = take firstPart (drop storeAt0 a)
+-- the store's octets in block 0 and in block 1
+abbrev pub part0 : List ℕ → List ℕ
+part0 a = take firstPart (drop storeAt0 a)
 
-  abbrev part1 : List ℕ
-  part1 = take secondPart (drop storeAt1 b)
+abbrev pub part1 : List ℕ → List ℕ
+part1 b = take secondPart (drop storeAt1 b)
 
-  length-part0 : length part0 ≡ firstPart
+module _ (a : List ℕ) (size : length a ≡ storedBlock) where
+  pub length-part0 : length (part0 a) ≡ firstPart
   length-part0 = length-take-le firstPart (drop storeAt0 a) (omega (arith, length-drop storeAt0 a))
 
-  length-part1 : length part1 ≡ secondPart
-  length-part1 = length-take-le secondPart (drop storeAt1 b) (omega (arith, length-drop storeAt1 b))
+  pub length-part1 : length (part1 a) ≡ secondPart
+  length-part1 = length-take-le secondPart (drop storeAt1 a) (omega (arith, length-drop storeAt1 a))
 
+module _ (a b : List ℕ) (size-a : length a ≡ storedBlock) (size-b : length b ≡ storedBlock) where
   pub length-storeIn : length (storeIn a b) ≡ storeSize
   unfolding storeIn
-  length-storeIn = length-append part0 part1 ∙ omega (arith, length-part0, length-part1)
+  length-storeIn = length-append (part0 a) (part1 b) ∙ omega (arith, length-part0 a size-a, length-part1 b size-b)
 
   pub first-in : (i : ℕ) → i < firstPart → getD a (storeAt0 + i) 0 ≡ getD (storeIn a b) i 0
   unfolding storeIn
-  first-in i h = sym (front-at part0 part1 firstPart length-part0 i h ∙ getD-take firstPart (drop storeAt0 a) i 0 h ∙ getD-drop storeAt0 a i 0)
+  first-in i h = sym (front-at (part0 a) (part1 b) firstPart (length-part0 a size-a) i h ∙ getD-take firstPart (drop storeAt0 a) i 0 h ∙ getD-drop storeAt0 a i 0)
 
   pub second-in : (i : ℕ) → firstPart ≤ i → i < storeSize → getD b (storeAt1 + (i - firstPart)) 0 ≡ getD (storeIn a b) i 0
   unfolding storeIn
   second-in i h l =
-      sym (back-at part0 part1 firstPart length-part0 i h ∙ getD-take secondPart (drop storeAt1 b) (i - firstPart) 0 (omega arith)
+      sym (back-at (part0 a) (part1 b) firstPart (length-part0 a size-a) i h ∙ getD-take secondPart (drop storeAt1 b) (i - firstPart) 0 (omega arith)
       ∙ getD-drop storeAt1 b (i - firstPart) 0)
 
 -- ---- octets that are zero

@@ -1,9 +1,9 @@
 // Flags of blocks in eight octets: block n in octet n / 8 at weight 2^(n mod 8).
 ghost use mathlib.Core.Path.{_≡_};
-ghost use Prim.Native.Nat.{_≤_, _<_};
+ghost use Prim.Native.Nat.{_<_};
 ghost use mathlib.Core.Bool.{not};
 ghost use Rattle.codes.specs.Order.{every};
-ghost use Rattle.transactions.specs.Flags.{flagCount, flagged, withFlag};
+ghost use Rattle.transactions.specs.Flags.{flagged, withFlag};
 
 // How many flags there are.
 pub const FLAGS: usize = 64;

@@ -1,7 +1,6 @@
 // Headers at a receiver: whether they are for it, and whether they repeat its transaction.
 ghost use mathlib.Core.Path.{_≡_};
-ghost use mathlib.Core.Bool.{cond, false};
-ghost use lib.Dec.{eqb};
+ghost use mathlib.Core.Bool.{false};
 ghost use Rattle.transactions.specs.Transactions.{heardOf, belongs};
 ghost use Rattle.transactions.specs.Parts.{heardBy, numberBy};
 use addresses::RadioAddress;

@@ -1,4 +1,4 @@
--- `history::recording::both` meets its contract: i octets of each are copied.
+-- `logs::recording::both` meets its contract: i octets of each are copied.
 -- Assumes nothing.
 use mathlib.Core.Path.{refl}
 use Prim.Native.Nat.{_-_, _≤_}

@@ -1,4 +1,4 @@
--- `history::recording::octet` meets its contract.
+-- `logs::recording::octet` meets its contract.
 -- Assumes nothing.
 use mathlib.Core.Path.{sym}
 use native.Mathlib.Omega.{arith}

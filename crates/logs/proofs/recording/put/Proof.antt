@@ -1,4 +1,4 @@
--- `history::recording::put` meets its contract: i octets of the contents stand, with zeros behind them.
+-- `logs::recording::put` meets its contract: i octets of the contents stand, with zeros behind them.
 -- Assumes nothing.
 use mathlib.Core.Path.{_≡_, sym, subst, _∙_}
 use Prim.Native.Nat.{ℕ, _+_, _*_, _-_, _/_, _%_, _≤_}

@@ -1,4 +1,4 @@
--- `history::recording::put_answer` meets its contract.
+-- `logs::recording::put_answer` meets its contract.
 -- Assumes nothing.
 use mathlib.Core.Path.{sym, ap, _∙_}
 use native.Mathlib.Omega.{arith}

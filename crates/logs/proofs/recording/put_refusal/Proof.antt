@@ -1,4 +1,4 @@
--- `history::recording::put_refusal` meets its contract.
+-- `logs::recording::put_refusal` meets its contract.
 -- Assumes nothing.
 use Rattle.logs.specs.Log.{codeOf, contentsOf, lineIn}
 use borrow.Author.Needs.{needs}

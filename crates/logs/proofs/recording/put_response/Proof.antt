@@ -1,4 +1,4 @@
--- `history::recording::put_response` meets its contract.
+-- `logs::recording::put_response` meets its contract.
 -- Assumes nothing.
 use mathlib.Core.Path.{_≡_, sym, ap, _∙_}
 use mathlib.Core.List.{List, append-nil}

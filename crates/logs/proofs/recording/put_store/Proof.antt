@@ -1,4 +1,4 @@
--- `history::recording::put_store` meets its contract: i octets are copied.
+-- `logs::recording::put_store` meets its contract: i octets are copied.
 -- Assumes nothing.
 use mathlib.Core.Path.{refl}
 use Prim.Native.Nat.{_-_, _≤_}

@@ -1,4 +1,4 @@
--- `history::recording::record` meets its contract.
+-- `logs::recording::record` meets its contract.
 -- Assumes nothing.
 use mathlib.Core.Path.{sym, ap, _∙_}
 use borrow.Author.Tests.{not-true, not-false}
@@ -45,7 +45,7 @@ returns-4 c = let a = c .before .before .before .before .before .before .before 
     let size = c .before .before .before .before .before .before .before .if3 .left in
     let t = taken-tells (a .rx) (a .store .now) (recordOf (a .kind) (a .octets .now)) (a .line .now) good room size in
     let e = c .before .before .before .before .record-kind .ensures in
-    (ap (λ (rx : Receiver). record { number = 0; receiver = rx }) (e .0) ∙ t .0, e .1 ∙ t .1, e .2 ∙ t .2)
+    (ap (λ (rx : Receiver). record { number = 0; receiver = rx }) (e .0) ∙ t .0, e .1 ∙ t .1, e .2 ∙ t .2, t .3)
 
 pub record-spec : {M : Type 1} → statement M
 record-spec =

@@ -1,4 +1,4 @@
--- `history::recording::record_block` meets its contract.
+-- `logs::recording::record_block` meets its contract.
 -- Assumes nothing.
 use mathlib.Core.Path.{ap, ap₂, _∙_}
 use mathlib.Core.List.{List}

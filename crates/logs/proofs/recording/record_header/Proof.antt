@@ -1,4 +1,4 @@
--- `history::recording::record_header` meets its contract.
+-- `logs::recording::record_header` meets its contract.
 -- Assumes nothing.
 use mathlib.Core.Path.{ap, _∙_}
 use Rattle.receiver.specs.Events.{said}

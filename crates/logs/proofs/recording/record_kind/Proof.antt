@@ -1,4 +1,4 @@
--- `history::recording::record_kind` meets its contract.
+-- `logs::recording::record_kind` meets its contract.
 -- Assumes nothing.
 use mathlib.Core.Path.{_≡_, refl, ap, _∙_}
 use mathlib.Core.Logic.{⊎-elim, _≢_}

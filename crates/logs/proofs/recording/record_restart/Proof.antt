@@ -1,4 +1,4 @@
--- `history::recording::record_restart` meets its contract.
+-- `logs::recording::record_restart` meets its contract.
 -- Assumes nothing.
 use mathlib.Core.Path.{ap, _∙_}
 use Prim.Native.Nat.{_-_}

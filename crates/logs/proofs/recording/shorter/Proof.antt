@@ -1,4 +1,4 @@
--- `history::recording::shorter` meets its contract.
+-- `logs::recording::shorter` meets its contract.
 -- Assumes nothing.
 use mathlib.Core.Path.{sym}
 use Rattle.codes.proofs.Tests.{cond-lt, cond-ge}

@@ -1,4 +1,4 @@
--- `history::replaying::count` meets its contract: n records stand before the place, each of at least one octet.
+-- `logs::replaying::count` meets its contract: n records stand before the place, each of at least one octet.
 -- Assumes nothing.
 use mathlib.Core.Path.{_≡_, ap}
 use Prim.Native.Nat.{_+_, _-_, _≤_}

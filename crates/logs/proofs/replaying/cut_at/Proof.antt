@@ -1,4 +1,4 @@
--- `history::replaying::cut_at` meets its contract.
+-- `logs::replaying::cut_at` meets its contract.
 -- Assumes nothing.
 use Prim.Native.Nat.{_+_}
 use native.Mathlib.Omega.{arith}

@@ -1,4 +1,4 @@
--- `history::replaying::replay` meets its contract: part of the way through, the report so far and the lines to come make up the whole.
+-- `logs::replaying::replay` meets its contract: part of the way through, the report so far and the lines to come make up the whole.
 -- Assumes nothing.
 use mathlib.Core.Path.{_≡_, refl, _∙_}
 use Prim.Native.Nat.{_+_, _*_, _-_, _/_, _≤_, _<_}
@@ -23,12 +23,14 @@ count-requires c κs = search needs
 
 returns : tie.Need-returns Inv-loop μ-loop
 returns c = let a = c .before .before .before .before .args in
-    no-room (a .log .now) (a .report .now) (omega (arith, c .before .count .ensures))
+    let octets = c .before .before .before .shared-slice-known .given in
+    no-room (a .log .now) (a .report .now) (λ j. octets j .fits) (omega (arith, c .before .count .ensures))
 
 returns-2 : tie.Need-returns-2 Inv-loop μ-loop
 returns-2 c = let a = c .before .before .before .before .before .args in
+    let octets = c .before .before .before .before .shared-slice-known .given in
     let n = c .before .before .count in
-    empty-report (a .log .now) (a .report .now) (n .result) (n .ensures) (omega (arith, n .ensures)) (c .if2 .taken)
+    empty-report (a .log .now) (a .report .now) (λ j. octets j .fits) (n .result) (n .ensures) (omega (arith, n .ensures)) (c .if2 .taken)
 
 shared-slice-read-radio-address : tie.Need-shared-slice-read-radio-address Inv-loop μ-loop
 shared-slice-read-radio-address c = let some = records-inside (c .before .before .before .before .before .before .args .log .now) (λ e. c .before .if2 .left (c .before .before .before .count .ensures ∙ e)) in
@@ -119,10 +121,11 @@ same-length c = let l = c .before .loop in
 
 returns-3 : tie.Need-returns-3 Inv-loop μ-loop
 returns-3 c = let a = c .before .before .before .before .before .before .before .before .before .before .before .before .before .args in
+    let octets = c .before .before .before .before .before .before .before .before .before .before .before .before .shared-slice-known .given in
     let n = c .before .before .before .before .before .before .before .before .before .before .count in
     let fits = c .before .before .before .before .before .before .before .before .before .if1 .left in
     let l = c .before .loop in
-    whole-report (a .log .now) (a .report .now) (n .result) (n .ensures) (omega (arith, n .ensures)) (l .report)
+    whole-report (a .log .now) (a .report .now) (λ j. octets j .fits) (n .result) (n .ensures) (omega (arith, n .ensures)) (l .report)
     (midway-end _ _ _ (n .result) (l .i) (l .at) _ (l .report) (l .inv) (c .loop-test .left))
 
 pub replay-spec : {M : Type 1} → statement M

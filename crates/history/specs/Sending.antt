@@ -1,0 +1,23 @@
+-- A message looped back: written, and given whole and in order to a fresh receiver of its destination.
+-- Assumes nothing.
+use mathlib.Core.Path.{_≡_}
+use mathlib.Core.List.{List, [], _∷_}
+use mathlib.Core.Logic.{_≢_}
+use Prim.Native.Nat.{ℕ}
+use lib.Dec.{eqb}
+use lib.ListN.{length, take}
+use Rattle.codes.specs.Order.{firstFailed}
+use Rattle.packets.specs.Messages.{fullHeader}
+use Rattle.packets.specs.declared.message.Delivery.{Delivery}
+use Rattle.receiver.specs.Receiver.{storeSize}
+use Rattle.receiver.specs.declared.event.Answer.{Answer}
+use Rattle.receiver.specs.declared.event.Answer.the-variants.{Refused, Message}
+
+-- 1 for a store of another size, 16 for a message that is too long or a field outside its width
+unfoldable pub loopNumber : List ℕ → Delivery → List ℕ → ℕ
+loopNumber m d store = firstFailed ((eqb (length store) storeSize, 1) ∷ (eqb (fullHeader (length m) d .number) 0, 16) ∷ [])
+
+-- the message is handed on, and stands in front in the store; a refusal changes nothing
+pub record LoopsBack (m : List ℕ) (d : Delivery) (store : List ℕ) (a : Answer) (store′ : List ℕ) : Type 0 where
+  pub handed-on : loopNumber m d store ≡ 0 → (a ≡ Message (length m)) × (take (length m) store′ ≡ m)
+  pub refused : loopNumber m d store ≢ 0 → (a ≡ Refused (loopNumber m d store)) × (store′ ≡ store)

@@ -1,0 +1,37 @@
+// A message written and received.
+ghost use Rattle.history.specs.Sending.{LoopsBack};
+use packets::message::Delivery;
+use receiver::event::Answer;
+use receiver::state::STORE;
+
+// Writes a message, gives it whole and in order to a fresh receiver of its destination, and tells the answer to the last block. The message
+// then stands in front in the store.
+pub fn loop_back(message: &[u8], d: Delivery, store: &mut [u8]) -> Answer
+    ensures { λ r. ⌜ LoopsBack (now (message .entry)) d (now (store .entry)) r (now (store .exit)) ⌝ }
+{
+    if store.len() != STORE {
+        return Answer::Refused(1);
+    }
+    let header = packets::message::full_header(message.len(), d);
+    if header.number != 0 {
+        return Answer::Refused(16);
+    }
+    let fresh = receiver::state::fresh_for(d.destination);
+    let first = fresh.receiver;
+    let octets = header.octets;
+    let opened = receiver::event::on_header(first, &octets);
+    let mut rx = opened.receiver;
+    let mut last = opened.answer;
+    let size = packets::message::size_of(message.len());
+    let blocks = size.blocks as usize;
+    let mut n: usize = 0;
+    while n < blocks {
+        let block = packets::message::block(message, n);
+        let os = block.octets;
+        let step = receiver::event::on_block(rx, store, &os);
+        rx = step.receiver;
+        last = step.answer;
+        n += 1;
+    }
+    last
+}
