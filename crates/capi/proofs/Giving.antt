@@ -1,0 +1,90 @@
+-- What is given for an answer, by the size of the lent memory and the number; and octets taken into an array by giving them.
+-- Assumes nothing.
+use mathlib.Core.Path.{_≡_, refl, sym, subst, _∙_}
+use mathlib.Core.Bool.{Bool, true, false, cond}
+use mathlib.Core.List.{List, [], _∷_}
+use Prim.Native.Nat.{ℕ}
+use native.Mathlib.Omega.{arith}
+use lib.Dec.{eqb}
+use lib.ListN.{length}
+use borrow.Author.Tests.{eqb-true, eq-eqb, ne-eqb}
+use Rattle.codes.specs.Order.{firstFailed}
+use Rattle.capi.specs.Lent.{given, filled, Gives}
+use Rattle.capi.specs.Answers.{Answer, behind}
+
+pub either : {C : Type 0} (b : Bool) → (b ≡ true → C) → (b ≡ false → C) → C
+either true f g = f refl
+either false f g = g refl
+
+-- an answer in another form, and its size
+pub gives-as : {m n r : ℕ} {a b : Answer} {out after : List ℕ} → m ≡ n → a ≡ b → Gives m a out r after → Gives n b out r after
+gives-as {m} {n} {r} {a} {b} {out} {after} size e g =
+    subst (λ (x : Answer). Gives n x out r after) e (subst (λ (x : ℕ). Gives x a out r after) size g)
+
+module _ (n : ℕ) (a : Answer) (out : List ℕ) where
+  pub another-size : (length out ≡ n → ⊥) → Gives n a out 1 out
+  unfolding given filled
+  another-size h = let e = ne-eqb (length out) n h in record { returned = rw e; holds = rw e }
+
+  pub refused : length out ≡ n → (a .0 ≡ 0 → ⊥) → Gives n a out (a .0) out
+  unfolding given filled
+  refused size h = let e = eq-eqb (length out) n size in record { returned = rw e; holds = rw (e, ne-eqb (a .0) 0 h) }
+
+  pub given-back : length out ≡ n → a .0 ≡ 0 → (after : List ℕ) → after ≡ a .1 → Gives n a out 0 after
+  unfolding given filled
+  given-back size h after same = let e = eq-eqb (length out) n size in record { returned = rw (e, h); holds = rw (e, eq-eqb (a .0) 0 h) same }
+
+  -- 1 is returned for any lent memory
+  pub refused-with-1 : a .0 ≡ 1 → Gives n a out 1 out
+  refused-with-1 h =
+      either (eqb (length out) n)
+      (λ e. subst (λ (x : ℕ). Gives n a out x out) h (refused (eqb-true (length out) n e) (λ z. omega arith)))
+      (λ e. another-size (λ size. let z : true ≡ false = sym (eq-eqb (length out) n size) ∙ e in absurd (let y : _≡_ {A = ℕ} 0 1 = cc in omega arith)))
+
+-- octets taken into an array by giving them
+module _ (os array after : List ℕ) (r : ℕ) (g : Gives (length os) (0, os) array r after) where
+  pub taken : r ≡ 0 → (length os ≡ length array) × (after ≡ os)
+  unfolding given filled
+  taken h =
+      either (eqb (length array) (length os))
+      (λ e. (sym (eqb-true (length array) (length os) e), g .holds ∙ (rw e)))
+      (λ e. absurd (let z : 0 ≡ 1 = sym h ∙ g .returned ∙ (rw e) in omega arith))
+
+  pub not-taken : (r ≡ 0 → ⊥) → length os ≡ length array → ⊥
+  unfolding given
+  not-taken h size = h (g .returned ∙ (rw (eq-eqb (length array) (length os) (sym size))))
+
+-- ---- a number behind tests
+
+module _ (n : ℕ) where
+  pub behind-none : behind [] n ≡ n
+  unfolding behind firstFailed
+  behind-none = either (eqb n 0) (λ e. rw e (sym (eqb-true n 0 e))) (λ e. rw e)
+
+  module _ (t : Bool) (k : ℕ) (ts : List (Bool × ℕ)) where
+    pub behind-passed : t ≡ true → behind ((t, k) ∷ ts) n ≡ behind ts n
+    unfolding behind firstFailed
+    behind-passed e = rw e
+
+    pub behind-failed : t ≡ false → behind ((t, k) ∷ ts) n ≡ k
+    unfolding behind firstFailed
+    behind-failed e = rw e
+
+  pub behind-one : (t : Bool) (k : ℕ) → behind ((t, k) ∷ []) n ≡ cond t n k
+  behind-one true k = behind-passed true k [] refl ∙ behind-none
+  behind-one false k = behind-failed false k [] refl
+
+-- ---- answers behind the sizes of what is given, and behind a test that is refused with 16
+
+-- octets of another size
+pub given-short : (n k number : ℕ) (os octets out : List ℕ) (ts : List (Bool × ℕ)) → (length os ≡ k → ⊥)
+    → Gives n (behind ((eqb (length os) k, 1) ∷ ts) number, octets) out 1 out
+given-short n k number os octets out ts h =
+    refused-with-1 n (behind ((eqb (length os) k, 1) ∷ ts) number, octets) out (behind-failed number (eqb (length os) k) 1 ts (ne-eqb (length os) k h))
+
+module _ (k number : ℕ) (os : List ℕ) (size : length os ≡ k) where
+  pub past-size : (ts : List (Bool × ℕ)) → behind ((eqb (length os) k, 1) ∷ ts) number ≡ behind ts number
+  past-size ts = behind-passed number (eqb (length os) k) 1 ts (eq-eqb (length os) k size)
+
+  pub past-both : (t : Bool) → behind ((eqb (length os) k, 1) ∷ (t, 16) ∷ []) number ≡ cond t number 16
+  past-both t = past-size ((t, 16) ∷ []) ∙ behind-one number t 16

@@ -1,0 +1,4 @@
+pub mod Lent
+pub mod Layouts
+pub mod Answers
+pub mod Events

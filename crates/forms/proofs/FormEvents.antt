@@ -1,0 +1,171 @@
+-- An event on a form: the order of its checks, and what each leaves.
+-- Assumes nothing.
+use mathlib.Core.Path.{_≡_, refl, sym, ap, subst, _∙_}
+use mathlib.Core.Bool.{false, cond}
+use mathlib.Core.List.{List, []}
+use mathlib.Core.Logic.{_≢_}
+use Prim.Native.Nat.{ℕ, _*_}
+use native.Mathlib.Omega.{arith}
+use native.Mathlib.Decide.{ℕ-discrete}
+use lib.Dec.{eqb}
+use lib.ListN.{length, getD, replicate, length-replicate}
+use borrow.Author.Tests.{eq-eqb, ne-eqb, eqb-true}
+use Rattle.codes.specs.Order.{firstFailed}
+use Rattle.bursts.specs.Datagrams.{datagramNumber, readDatagram}
+use Rattle.bursts.specs.declared.datagram.Datagram.{Datagram}
+use Rattle.bursts.proofs.DatagramNumbers.{read-number}
+use Rattle.transactions.specs.Answers.{refused, numberOf}
+use Rattle.transactions.proofs.Tests.{either}
+use Rattle.receiver.specs.declared.state.Receiver.{Receiver}
+use Rattle.stored.specs.Stored.{storedBlock, saved, afterSave}
+use Rattle.stored.specs.Claims.{Savable}
+use Rattle.history.specs.History.{Event, header, block, ended}
+use Rattle.history.specs.Run.{event, State, answerTo, savedForm}
+use Rattle.history.specs.Claims.{Octets}
+use Rattle.history.proofs.Demand3.{Given}
+use Rattle.logs.specs.Log.{Record, act, recordOf, lineOf, afterRecord, lineIn, lineSize, stateOf}
+use Rattle.logs.proofs.OneRecord.{header-kind, block-kind, end-kind, form-of}
+use Rattle.forms.specs.Forms.{stateIn, formNumber, lineNumber, eventNumber, formAfter, lineAfter, carried}
+use Rattle.forms.specs.Parts.{AnEvent, Answered}
+use Rattle.forms.proofs.Answers.{line-refused, line-taken, numbered, refused-numbered}
+use Rattle.forms.proofs.HeldHistory.{savable-after}
+use Rattle.forms.proofs.FormStates.{other-size}
+
+-- ---- records that are events
+
+pub record Happens (r : Record) : Type 0 where
+  pub what : Event
+  pub is : r ≡ act (event what)
+  pub given : Given what
+
+pub happens : (kind : ℕ) (os : List ℕ) → AnEvent kind os → Octets os → Happens (recordOf kind os)
+happens kind os (few, empty) small = go (ℕ-discrete kind 0) (ℕ-discrete kind 1)
+  where
+    go : Dec (kind ≡ 0) → Dec (kind ≡ 1) → Happens (recordOf kind os)
+    go (yes e) d = record { what = header os; is = header-kind kind os e; given = small }
+    go (no n) (yes e) = record { what = block os; is = block-kind kind os n e; given = small }
+    go (no n) (no m) =
+        let two : kind ≡ 2 = omega arith in record { what = ended; is = end-kind kind os n m two (empty two); given = tt }
+
+-- ---- the answer
+
+pub length-blank : length (replicate {A = ℕ} lineSize 0) ≡ lineSize
+length-blank = length-replicate {A = ℕ} lineSize 0
+
+-- `out` is the line of the answer
+module _ (s : State) (s0 s1 : ℕ) (form line out : List ℕ) where
+  code : {l : List ℕ} → out ≡ l → getD l 0 0 ≡ getD out 0 0
+  code o = sym (ap (λ (l : List ℕ). getD l 0 0) o)
+
+  abbrev Refused : Record → Type 0
+  Refused r = out ≡ lineIn (lineOf s r) → getD out 0 0 ≡ 0 → Answered s r s0 s1 form line (getD out 3 0) form line
+
+  event-refused : (e : Event) → Refused (act (event e))
+  unfolding lineOf lineNumber numberOf
+  event-refused e o z =
+      let n : ℕ = getD out 3 0 in
+      let is : answerTo s e ≡ refused n = line-refused (answerTo s e) (code o ∙ z) ∙ ap (λ (l : List ℕ). refused (getD l 3 0)) (sym o) in
+      let some : eqb n 0 ≡ false = ne-eqb n 0 (refused-numbered (answerTo s e) n (numbered s e) is) in
+      let k : numberOf (answerTo s e) ≡ n = ap numberOf is in
+      (sym k, rw (k, some), rw (k, some))
+
+  pub acted-refused : (r : Record) → Happens r → Refused r
+  acted-refused r h = subst Refused (sym (h .is)) (event-refused (h .what))
+
+  abbrev Taken : Record → Type 0
+  Taken r = out ≡ lineIn (lineOf s r) → getD out 0 0 ≢ 0 → Answered s r s0 s1 form line 0 (savedForm (afterRecord s r) s0 s1) out
+
+  event-taken : (e : Event) → Taken (act (event e))
+  unfolding lineOf lineNumber
+  event-taken e o z = let k : numberOf (answerTo s e) ≡ 0 = line-taken (answerTo s e) (λ y. z (sym (code o) ∙ y)) in (sym k, rw k, o ∙ rw k)
+
+  pub acted-taken : (r : Record) → Happens r → Taken r
+  acted-taken r h = subst Taken (sym (h .is)) (event-taken (h .what))
+
+-- what is saved after an event
+module _ (rx : Receiver) (store : List ℕ) (m : Savable rx store) (small : Octets (rx .flags)) where
+  abbrev SavableAfter : Record → Type 0
+  SavableAfter r = Savable (afterRecord (stateOf rx store) r .receiver) (afterRecord (stateOf rx store) r .store)
+
+  event-savable : (e : Event) → Given e → SavableAfter (act (event e))
+  unfolding afterRecord
+  event-savable e o = savable-after rx store m small e o
+
+  pub saved-after : (r : Record) → Happens r → (s0 s1 : ℕ) (form : List ℕ) → length form ≡ 2 * storedBlock → (next : Receiver) (left : List ℕ)
+      → next ≡ afterRecord (stateOf rx store) r .receiver → left ≡ afterRecord (stateOf rx store) r .store
+      → afterSave next left s0 s1 form ≡ savedForm (afterRecord (stateOf rx store) r) s0 s1
+  unfolding savedForm
+  saved-after r h s0 s1 form size next left en el =
+      let v : SavableAfter r = subst SavableAfter (sym (h .is)) (event-savable (h .what) (h .given)) in
+      rw (en, el) (form-of (afterRecord (stateOf rx store) r .receiver) (v .good) (afterRecord (stateOf rx store) r .store) s0 s1 form (v .room) size)
+
+-- ---- the order of checks
+
+-- a number as the last test gives it
+itself : (k : ℕ) → cond (eqb k 0) 0 k ≡ k
+itself k = either (eqb k 0) (λ t. rw t (sym (eqb-true k 0 t))) (λ t. rw t)
+
+module _ (form : List ℕ) (s0 s1 : ℕ) (line : List ℕ) (number : ℕ) (r : Record) where
+  abbrev pub Outcome : ℕ → List ℕ → List ℕ → Type 0
+  Outcome n form′ line′ =
+      (n ≡ eventNumber form line number r) × (form′ ≡ formAfter form s0 s1 line number r) × (line′ ≡ lineAfter form line number r)
+
+  no-change : (n : ℕ) → eventNumber form line number r ≡ n → n ≢ 0 → Outcome n form line
+  unfolding formAfter lineAfter
+  no-change n e d = (sym e, rw (e, ne-eqb n 0 d), rw (e, ne-eqb n 0 d))
+
+  pub other-line : length line ≢ lineSize → Outcome 1 form line
+  other-line d = no-change 1 (unfold eventNumber firstFailed in rw (ne-eqb (length line) lineSize d)) (λ z. omega arith)
+
+  module _ (room : length line ≡ lineSize) where
+    pub form-refused : (n : ℕ) → n ≡ formNumber form → n ≢ 0 → Outcome n form line
+    form-refused n e d =
+        no-change n (unfold eventNumber firstFailed in rw (eq-eqb (length line) lineSize room, ← e, ne-eqb n 0 d)) d
+
+    pub other-form : length form ≢ 2 * storedBlock → Outcome 1 form line
+    other-form d = form-refused 1 (sym (other-size form d)) (λ z. omega arith)
+
+    module _ (taken : formNumber form ≡ 0) where
+      pub number-refused : number ≢ 0 → Outcome number form line
+      number-refused d =
+          no-change number (unfold eventNumber firstFailed in rw (eq-eqb (length line) lineSize room, taken, ne-eqb number 0 d)) d
+
+      number-left : number ≡ 0 → eventNumber form line number r ≡ lineNumber (lineOf (stateIn form) r)
+      unfolding eventNumber firstFailed
+      number-left none = rw (eq-eqb (length line) lineSize room, taken, none) (itself (lineNumber (lineOf (stateIn form) r)))
+
+      pub answer-left : number ≡ 0 → (s : State) → s ≡ stateIn form → (n : ℕ) (form′ line′ : List ℕ) → Answered s r s0 s1 form line n form′ line′
+          → Outcome n form′ line′
+      unfolding formAfter lineAfter
+      answer-left none s is n form′ line′ a =
+          let e : eventNumber form line number r ≡ lineNumber (lineOf (stateIn form) r) = number-left none in
+          let b : Answered (stateIn form) r s0 s1 form line n form′ line′ = rw is at a in
+          rw e b
+
+-- the same with another name for the number and the record
+module _ (form : List ℕ) (s0 s1 : ℕ) (line : List ℕ) (n n′ : ℕ) (r r′ : Record) (k : ℕ) (form′ line′ : List ℕ) where
+  pub outcome-as : n ≡ n′ → r ≡ r′ → Outcome form s0 s1 line n r k form′ line′ → Outcome form s0 s1 line n′ r′ k form′ line′
+  outcome-as e f o = rw (← e, ← f) o
+
+pub end-is : recordOf 2 [] ≡ act (event ended)
+end-is = end-kind 2 [] (λ z. omega arith) (λ z. omega arith) refl refl
+
+pub block-is : (os : List ℕ) → recordOf 1 os ≡ act (event (block os))
+block-is os = block-kind 1 os (λ z. omega arith) refl
+
+pub header-is : (os : List ℕ) → recordOf 0 os ≡ act (event (header os))
+header-is os = header-kind 0 os refl
+
+-- ---- a datagram
+
+module _ (d : List ℕ) (g : Datagram) (e : g ≡ readDatagram d) where
+  pub read-number-is : g .number ≡ datagramNumber d
+  read-number-is = ap (λ (x : Datagram). x .number) e ∙ read-number d
+
+  pub carried-header : g .datatype ≡ 6 → recordOf 0 (g .info) ≡ carried d
+  unfolding carried
+  carried-header k = header-is (g .info) ∙ rw (← e, eq-eqb (g .datatype) 6 k)
+
+  pub carried-block : g .datatype ≢ 6 → recordOf 1 (g .info) ≡ carried d
+  unfolding carried
+  carried-block k = block-is (g .info) ∙ rw (← e, ne-eqb (g .datatype) 6 k)

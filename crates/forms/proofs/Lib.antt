@@ -1,0 +1,6 @@
+pub mod Answers
+pub mod HeldHistory
+pub mod FormStates
+pub mod FormEvents
+pub mod FormRuns
+pub mod FreshForms

@@ -1,0 +1,85 @@
+-- `forms::on_record` meets its contract.
+-- Assumes nothing.
+use mathlib.Core.Path.{sym, _∙_}
+use Rattle.logs.specs.Log.{recordOf}
+use Rattle.forms.proofs.FormStates.{number-is, state-is, state-savable, state-flags}
+use Rattle.forms.proofs.FormEvents.{other-line, other-form, form-refused, number-refused, answer-left}
+use borrow.Author.Needs.{needs}
+use Rattle.forms.proofs.on_record.Statement.{statement}
+use Rattle.forms.proofs.on_record.Tie as tie
+
+returns : tie.Need-returns
+returns c = let a = c .before .before .before .before .args in
+    other-line (a .form .now) (a .s0) (a .s1) (a .line .now) (a .number) (recordOf (a .kind) (a .octets .now)) (c .if1 .taken)
+
+returns-2 : tie.Need-returns-2
+returns-2 c = let a = c .before .before .before .before .before .args in
+    other-form (a .form .now) (a .s0) (a .s1) (a .line .now) (a .number) (recordOf (a .kind) (a .octets .now)) (c .before .if1 .left) (c .if2 .taken)
+
+slice-aggregate-take-form : tie.Need-slice-aggregate-take-form
+slice-aggregate-take-form c = search needs
+
+take-form-requires : tie.Need-take-form-requires
+take-form-requires c κs = search needs
+
+same-length : tie.Need-same-length
+same-length c = search needs
+
+returns-3 : tie.Need-returns-3
+returns-3 c = let a = c .before .before .before .before .before .before .before .before .before .before .before .args in
+    let t = c .before .before .before .take-form in
+    form-refused (a .form .now) (a .s0) (a .s1) (a .line .now) (a .number) (recordOf (a .kind) (a .octets .now)) (c .before .before .before .before .before .before .before .if1 .left)
+    (t .result .number) (number-is (a .form .now) (t .result) _ (t .ensures .0) (t .ensures .1)) (c .if3 .taken)
+
+same-length-2 : tie.Need-same-length-2
+same-length-2 c = search needs
+
+returns-4 : tie.Need-returns-4
+returns-4 c = let a = c .before .before .before .before .before .before .before .before .before .before .before .before .args in
+    let t = c .before .before .before .before .take-form in
+    let none = sym (number-is (a .form .now) (t .result) _ (t .ensures .0) (t .ensures .1)) ∙ c .before .if3 .left in
+    number-refused (a .form .now) (a .s0) (a .s1) (a .line .now) (a .number) (recordOf (a .kind) (a .octets .now)) (c .before .before .before .before .before .before .before .before .if1 .left) none (c .if4 .taken)
+
+slice-aggregate-act-on : tie.Need-slice-aggregate-act-on
+slice-aggregate-act-on c = search needs
+
+act-on-requires : tie.Need-act-on-requires
+act-on-requires c κs = let a = c .before .before .before .before .before .before .before .before .before .before .before .before .before .before .before .before .args in
+    let t = c .before .before .before .before .before .before .before .before .take-form in (
+      state-savable (a .form .now) (t .result) _ (t .ensures .0) (t .ensures .1) (c .before .before .before .before .before .if3 .left),
+      state-flags (a .form .now) (t .result) _ (t .ensures .0) (t .ensures .1) (c .before .before .before .before .before .if3 .left) (λ i. c .before .before .before .before .before .before .before .before .before .before .before .before .before .before .before .slice-known .given i .fits),
+      c .before .before .before .before .before .before .before .before .before .before .before .if2 .left,
+      c .before .before .before .before .before .before .before .before .before .before .before .before .if1 .left,
+      c .before .before .before .before .before .before .before .before .before .before .before .before .before .before .before .before .pre,
+    )
+
+same-length-3 : tie.Need-same-length-3
+same-length-3 c = search needs
+
+same-length-4 : tie.Need-same-length-4
+same-length-4 c = search needs
+
+returns-5 : tie.Need-returns-5
+returns-5 c = let a = c .before .before .before .before .before .before .before .before .before .before .before .before .before .before .before .before .before .before .before .before .before .before .args in
+    let t = c .before .before .before .before .before .before .before .before .before .before .before .before .before .before .take-form in
+    let none = sym (number-is (a .form .now) (t .result) _ (t .ensures .0) (t .ensures .1)) ∙ c .before .before .before .before .before .before .before .before .before .before .before .if3 .left in
+    answer-left (a .form .now) (a .s0) (a .s1) (a .line .now) (a .number) (recordOf (a .kind) (a .octets .now)) (c .before .before .before .before .before .before .before .before .before .before .before .before .before .before .before .before .before .before .if1 .left) none (c .before .before .before .before .before .before .before .before .before .before .if4 .left)
+    _ (state-is (a .form .now) (t .result) _ (t .ensures .0) (t .ensures .1) (c .before .before .before .before .before .before .before .before .before .before .before .if3 .left)) _ _ _ (c .before .before .before .before .before .act-on .ensures)
+
+pub on-record-spec : {M : Type 1} → statement M
+on-record-spec =
+    tie.close
+    (tie.spec
+    returns
+    returns-2
+    slice-aggregate-take-form
+    take-form-requires
+    same-length
+    returns-3
+    same-length-2
+    returns-4
+    slice-aggregate-act-on
+    act-on-requires
+    same-length-3
+    same-length-4
+    returns-5)

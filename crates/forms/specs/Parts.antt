@@ -1,0 +1,21 @@
+-- What private functions require and give: nothing that a reader has to believe.
+-- Assumes nothing.
+use mathlib.Core.Path.{_≡_}
+use mathlib.Core.Bool.{cond}
+use mathlib.Core.List.{List}
+use Prim.Native.Nat.{ℕ, _<_}
+use lib.Dec.{eqb}
+use lib.ListN.{length}
+use Rattle.history.specs.Run.{State, savedForm}
+use Rattle.logs.specs.Log.{Record, lineOf, afterRecord, lineIn}
+use Rattle.forms.specs.Forms.{lineNumber}
+
+-- the kind and the octets of an event: a header, a block, or an end of attempt, which has no octets
+abbrev pub AnEvent : ℕ → List ℕ → Type 0
+AnEvent kind os = (kind < 3) × (kind ≡ 2 → length os ≡ 0)
+
+-- the number of the answer to a record; the form and the line after it, which a refusal leaves as they were
+abbrev pub Answered : State → Record → ℕ → ℕ → List ℕ → List ℕ → ℕ → List ℕ → List ℕ → Type 0
+Answered s r s0 s1 form line n form′ line′ =
+    (n ≡ lineNumber (lineOf s r)) × (form′ ≡ cond (eqb (lineNumber (lineOf s r)) 0) (savedForm (afterRecord s r) s0 s1) form)
+    × (line′ ≡ cond (eqb (lineNumber (lineOf s r)) 0) (lineIn (lineOf s r)) line)
