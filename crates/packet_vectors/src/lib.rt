@@ -1,15 +1,16 @@
-// Runs the worked examples of document 01 on bursts, datagrams, headers, blocks, messages and responses through the public functions of
-// the libraries. All values are in hexadecimal. Each function says how many cases it counts; the check finds this by itself for at most
+// Runs the worked examples of document 01 on bursts, datagrams, headers, blocks, messages, responses and the receiver through the public
+// functions of the libraries. All values are in hexadecimal. Each function says how many cases it counts; the check finds this by itself for at most
 // four cases or groups in a row, so no function has more.
 ghost use mathlib.Core.Path.{_≡_};
 ghost use Prim.Native.Nat.{_+_, _%_, _^_};
 
 mod burst_cases;
 mod packet_cases;
+mod receiver_cases;
 
 // Writes a line for each case and counts on from t.
 pub fn cases(t: report::Tally) -> report::Tally
-    ensures { λ r. ⌜ r .cases ≡ (t .cases + 48) % 2 ^ 32 ⌝ }
+    ensures { λ r. ⌜ r .cases ≡ (t .cases + 52) % 2 ^ 32 ⌝ }
 {
-    burst_cases::cases(packet_cases::cases(t))
+    receiver_cases::cases(burst_cases::cases(packet_cases::cases(t)))
 }
