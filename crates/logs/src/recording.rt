@@ -23,7 +23,7 @@ use stored::saving::FORM;
 // Octets of a line, and of its contents.
 pub const LINE: usize = 3 + CONTENTS;
 
-const CONTENTS: usize = 1024;
+const CONTENTS: usize = FORM;
 
 // The codes of lines.
 const REFUSED: u8 = 0;

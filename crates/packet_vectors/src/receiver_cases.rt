@@ -5,6 +5,7 @@ use addresses::RadioAddress;
 use packets::response::ResponseOctets;
 use receiver::event::Answer;
 use receiver::state::Receiver;
+use receiver::state::STORE;
 use report::Tally;
 use transactions::header::Transaction;
 
@@ -75,7 +76,7 @@ pub fn cases(mut t: Tally) -> Tally
         &r.block,
         b"\xFD\xFF\xFF\xFF\xFF\xFF\xFF\xFF\x00\xB6\xAE\x30",
     );
-    let mut store = [0u8; 630];
+    let mut store = [0u8; STORE];
     let n = looped(&mut store);
     report::name(b"TARE -12.5 mm, octets handed on", b"");
     t = report::number(t, 1, n, 13);

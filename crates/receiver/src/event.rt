@@ -14,14 +14,11 @@ ghost use Rattle.receiver.specs.Parts.{heardBy, numberWith};
 use crate::state::Receiver;
 use crate::state::STORE;
 use packets::block::Block;
+use packets::message::BLOCK;
+use packets::message::CHECK;
 use packets::response::ResponseOctets;
 use transactions::header::Heard;
 use transactions::header::Transaction;
-
-// Octets of a block and of a message check.
-const BLOCK: usize = 10;
-
-const CHECK: usize = 4;
 
 // What is answered to a header or a block. A message is the store's first octets, this many.
 pub enum Answer {
@@ -104,7 +101,7 @@ pub fn on_header(rx: Receiver, header: &[u8]) -> Step
 // ---- blocks
 
 // Whether these data octets are those of block n of the store.
-fn same_block(store: &[u8], n: usize, octets: [u8; 10]) -> bool
+fn same_block(store: &[u8], n: usize, octets: [u8; BLOCK]) -> bool
     requires { ⌜ blockSize * n + blockSize ≤ length (now store) ⌝ }
     ensures { λ r. ⌜ r ≡ sameData (blockAt (now (store .entry)) n) octets ⌝ }
 {
@@ -119,7 +116,7 @@ fn same_block(store: &[u8], n: usize, octets: [u8; 10]) -> bool
 }
 
 // These data octets become those of block n of the store.
-fn put_block(store: &mut [u8], n: usize, octets: [u8; 10])
+fn put_block(store: &mut [u8], n: usize, octets: [u8; BLOCK])
     requires { ⌜ blockSize * n + blockSize ≤ length (now store) ⌝ }
     ensures { λ r. ⌜ now (store .exit) ≡ putBlock (now (store .entry)) n octets ⌝ }
 {

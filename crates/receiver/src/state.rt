@@ -5,15 +5,11 @@ ghost use lib.Dec.{eqb};
 ghost use Rattle.transactions.specs.Flags.{flagCount};
 ghost use Rattle.receiver.specs.Receiver.{freshReceiver, freshFor, transactionGood, transactionNone, noneFrom, receiverGood};
 use addresses::RadioAddress;
+use packets::message::BLOCK;
+use packets::message::CHECK;
+use packets::message::MOST_BLOCKS;
 use transactions::flags::FLAGS;
 use transactions::header::Transaction;
-
-// Octets of a block, of a message check, and the most blocks of a message.
-const BLOCK: usize = 10;
-
-const CHECK: usize = 4;
-
-const MOST_BLOCKS: usize = 63;
 
 // Octets of the message store that a receiver is lent.
 pub const STORE: usize = BLOCK * MOST_BLOCKS;

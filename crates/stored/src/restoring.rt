@@ -7,7 +7,6 @@ ghost use Rattle.receiver.specs.Receiver.{storeSize, receiverGood};
 ghost use Rattle.stored.specs.Stored.{storedBlock, zerosAt, zeroPart, receiverIn, storeIn, zerosFrom, clear, restoreNumber, restored, afterRestore};
 ghost use Rattle.stored.specs.Claims.{SavesBack};
 ghost use Rattle.stored.specs.Parts.{marked, checked, layoutKept};
-use crate::saving::BLOCK;
 use crate::saving::FIRST_PART;
 use crate::saving::FORM;
 use crate::saving::STORE_AT_0;
@@ -15,6 +14,7 @@ use crate::saving::STORE_AT_1;
 use crate::saving::STORED_BLOCK;
 use crate::saving::ZEROS;
 use crate::saving::ZEROS_AT;
+use packets::message::BLOCK;
 use receiver::state::Receiver;
 use receiver::state::STORE;
 use transactions::header::Transaction;
@@ -61,7 +61,7 @@ fn octet_in(a: &[u8], b: &[u8], i: usize) -> u8
 }
 
 // The store in the two blocks.
-fn store_in(a: &[u8], b: &[u8]) -> [u8; 630]
+fn store_in(a: &[u8], b: &[u8]) -> [u8; STORE]
     requires { ⌜ (length (now a) ≡ storedBlock) × (length (now b) ≡ storedBlock) ⌝ }
     ensures { λ r. ⌜ r ≡ storeIn (now (a .entry)) (now (b .entry)) ⌝ }
 {
@@ -100,7 +100,7 @@ fn is_marked(a: &[u8], b: &[u8]) -> bool
 }
 
 // Whether the octets of blocks not held are zero.
-fn is_clear(rx: Receiver, store: [u8; 630]) -> bool
+fn is_clear(rx: Receiver, store: [u8; STORE]) -> bool
     ensures { λ r. ⌜ r ≡ clear rx store storeSize ⌝ }
 {
     let flags = rx.flags;
@@ -132,7 +132,7 @@ fn ends_in_zeros(b: &[u8]) -> bool
 }
 
 // Whether the message check is good, if the transaction is complete.
-fn is_checked(rx: Receiver, store: [u8; 630]) -> bool
+fn is_checked(rx: Receiver, store: [u8; STORE]) -> bool
     requires { ⌜ receiverGood rx ≡ true ⌝ }
     ensures { λ r. ⌜ r ≡ checked rx store ⌝ }
 {
@@ -145,7 +145,7 @@ fn is_checked(rx: Receiver, store: [u8; 630]) -> bool
 }
 
 // Whether every rule of the layout is kept.
-fn layout_kept(a: &[u8], b: &[u8], rx: Receiver, store: [u8; 630]) -> bool
+fn layout_kept(a: &[u8], b: &[u8], rx: Receiver, store: [u8; STORE]) -> bool
     requires { ⌜ (length (now a) ≡ storedBlock) × (length (now b) ≡ storedBlock) ⌝ }
     ensures { λ r. ⌜ r ≡ layoutKept (now (a .entry)) (now (b .entry)) rx store ⌝ }
 {
@@ -200,7 +200,7 @@ fn number_of(rx: Receiver, form: &[u8], store: &[u8]) -> u8
 }
 
 // The octets become those of the store.
-fn put_store(store: &mut [u8], octets: [u8; 630])
+fn put_store(store: &mut [u8], octets: [u8; STORE])
     requires { ⌜ length (now store) ≡ storeSize ⌝ }
     ensures { λ r. ⌜ now (store .exit) ≡ octets ⌝ }
 {

@@ -10,6 +10,7 @@ ghost use Rattle.transactions.specs.Flags.{flagged};
 ghost use Rattle.stored.specs.Stored.{storedBlock, checkedSize, heldOctets, head0, saveNumber, afterSave};
 ghost use Rattle.stored.specs.Claims.{Savable, Restores};
 ghost use Rattle.stored.specs.Parts.{over};
+use packets::message::BLOCK;
 use receiver::state::Receiver;
 use receiver::state::STORE;
 
@@ -33,9 +34,6 @@ pub const STORE_AT_1: usize = 4;
 pub const ZEROS_AT: usize = STORE_AT_1 + SECOND_PART;
 
 pub const ZEROS: usize = CHECKED - ZEROS_AT;
-
-// Octets of a block of the store.
-pub const BLOCK: usize = 10;
 
 // Octets written over a slice at a place.
 fn copy_at(to: &mut [u8], at: usize, octets: &[u8])

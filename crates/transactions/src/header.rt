@@ -9,11 +9,11 @@ use packets::header::Header;
 use packets::header::HeaderAnswer;
 
 // Octets of a block, of a message check, and the most blocks of a message.
-const BLOCK: u32 = 10;
+const BLOCK: u32 = packets::message::BLOCK as u32;
 
-const CHECK: u32 = 4;
+const CHECK: u32 = packets::message::CHECK as u32;
 
-const MOST_BLOCKS: u8 = 63;
+const MOST_BLOCKS: u8 = packets::message::MOST_BLOCKS as u8;
 
 // What tells one transaction from another: source, SAP, N(S), pad and number of blocks.
 pub struct Transaction {
