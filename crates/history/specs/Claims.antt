@@ -65,6 +65,13 @@ blockEvents m n (suc k) = block (writeMessageBlock m n .octets) ∷ blockEvents 
 unfoldable pub sending : List ℕ → Delivery → List Event
 sending m d = header (fullHeader (length m) d .octets) ∷ blockEvents m 0 (blocksOf (length m))
 
+-- a message that is written is handed on as that message by a fresh receiver of its destination, wherever restarts stand between the events
+abbrev pub Delivered : List ℕ → Delivery → Type 0
+Delivered m d =
+    (store : List ℕ) (actions : List Action) → length m ≤ mostOctets → Within d → length store ≡ storeSize → Possible actions
+    → events actions ≡ sending m d
+    → answers (freshState (d .destination) store) actions ≡ opened ∷ replicate (blocksOf (length m) - 1) stored ++ message m ∷ []
+
 pub record HistoryClaims : Type 0 where
   -- demand 3, for every own address, every initial store and every list
   pub demand3 : (own : RadioAddress) (store : List ℕ) (actions : List Action) → own .0 < 2 ^ 24 → length store ≡ storeSize → Possible actions
@@ -74,10 +81,8 @@ pub record HistoryClaims : Type 0 where
       → Once true (answers (freshState own store) actions)
   -- a refused event changes nothing, whatever the receiver and the store are
   pub refused-changes-nothing : (s : State) (e : Event) (n : ℕ) → answerTo s e ≡ refused n → afterEvent s e ≡ s
-  -- a message that is written is handed on as that message, wherever restarts stand between the events
-  pub delivered : (m : List ℕ) (d : Delivery) (store : List ℕ) (actions : List Action) → length m ≤ mostOctets → Within d
-      → length store ≡ storeSize → Possible actions → events actions ≡ sending m d
-      → answers (freshState (d .destination) store) actions ≡ opened ∷ replicate (blocksOf (length m) - 1) stored ++ message m ∷ []
+  -- what is written is handed on
+  pub delivered : (m : List ℕ) (d : Delivery) → Delivered m d
   -- every receiver that a run leaves can be saved and is restored (Savable is what saving and restoring ask for)
   pub savable : (own : RadioAddress) (store : List ℕ) (actions : List Action) → own .0 < 2 ^ 24 → length store ≡ storeSize → Possible actions
       → Savable (left (freshState own store) actions .receiver) (left (freshState own store) actions .store)
