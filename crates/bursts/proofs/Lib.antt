@@ -7,8 +7,3 @@ pub mod Numbers
 pub mod ReadingBack
 pub mod Rows
 pub mod BurstClaims
-pub mod DatagramNumbers
-pub mod DatagramWriting
-pub mod DatagramBack
-pub mod DatagramRows
-pub mod DatagramClaims

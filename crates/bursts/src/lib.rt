@@ -1,3 +1,2 @@
-// Bursts and the datagrams that carry them: octets to fields and back.
+// Bursts: octets to fields and back.
 pub mod burst;
-pub mod datagram;

@@ -9,11 +9,11 @@ use Rattle.codes.specs.Order.{firstFailed}
 use Rattle.codes.specs.SlotWord.{readSlotType, slotNumber}
 use Rattle.codes.specs.Field.{writtenField, readField}
 use Rattle.bursts.specs.Bursts.{slotData, readBurst, writeBurst}
-use Rattle.bursts.specs.Datagrams.{readDatagram, writeDatagram}
+use Rattle.datagrams.specs.Datagrams.{readDatagram, writeDatagram}
 use Rattle.packets.specs.Blocks.{readBlock, writeBlock}
 use Rattle.packets.specs.Headers.{readHeader, writeHeader}
-use Rattle.packets.specs.Messages.{sizeOf, writeMessageBlock, fullHeader, partialHeader}
-use Rattle.packets.specs.Responses.{readResponse, writeResponse}
+use Rattle.messages.specs.Messages.{sizeOf, writeMessageBlock, fullHeader, partialHeader}
+use Rattle.messages.specs.Responses.{readResponse, writeResponse}
 use Rattle.packets.specs.declared.header.HeaderAnswer.{HeaderAnswer}
 use Rattle.packets.specs.declared.header.HeaderAnswer.the-variants.{Accepted, Refused}
 use Rattle.capi.specs.Layouts.{syncOf, replyOf, deliveryOf, headerFrom, labelsFrom, sizeOctets, headerOctets, blockOctets, responseOctets, burstOctets, datagramOctets}

@@ -9,19 +9,19 @@ use Rattle.addresses.specs.Octets.{addressAt, threeOctets, fourOctets, numberAt
 use Rattle.bursts.specs.declared.burst.Burst.{Burst}
 use Rattle.bursts.specs.declared.burst.Sync.{Sync}
 use Rattle.bursts.specs.declared.burst.Sync.the-variants.{Base, Mobile}
-use Rattle.bursts.specs.declared.datagram.Datagram.{Datagram}
-use Rattle.bursts.specs.declared.datagram.Labels.{Labels}
+use Rattle.datagrams.specs.declared.Datagram.{Datagram}
+use Rattle.datagrams.specs.declared.Labels.{Labels}
 use Rattle.packets.specs.Headers.{headerFor}
 use Rattle.packets.specs.declared.block.Block.{Block}
 use Rattle.packets.specs.declared.header.Common.{Common}
 use Rattle.packets.specs.declared.header.Header.{Header}
 use Rattle.packets.specs.declared.header.Header.the-variants.{Response, Unconfirmed, Confirmed}
 use Rattle.packets.specs.declared.header.HeaderAnswer.{HeaderAnswer}
-use Rattle.packets.specs.declared.message.Delivery.{Delivery}
-use Rattle.packets.specs.declared.message.Size.{Size}
-use Rattle.packets.specs.declared.response.Reply.{Reply}
-use Rattle.packets.specs.declared.response.Reply.the-variants.{Ack, Nack, Sack}
-use Rattle.packets.specs.declared.response.ResponseAnswer.{ResponseAnswer}
+use Rattle.messages.specs.declared.message.Delivery.{Delivery}
+use Rattle.messages.specs.declared.message.Size.{Size}
+use Rattle.messages.specs.declared.response.Reply.{Reply}
+use Rattle.messages.specs.declared.response.Reply.the-variants.{Ack, Nack, Sack}
+use Rattle.messages.specs.declared.response.ResponseAnswer.{ResponseAnswer}
 
 -- ---- given as octets or numbers
 

@@ -1,6 +1,6 @@
 // Slot type, block field and checks, for C.
 ghost use mathlib.Core.Path.{_≡_};
-ghost use Rattle.codes.specs.Checks.{headerCheck, blockCheck, messageCheck};
+ghost use Rattle.checks.specs.Checks.{headerCheck, blockCheck, messageCheck};
 ghost use Rattle.codes.specs.SlotWord.{slotWord};
 ghost use Rattle.capi.specs.Lent.{Gives};
 ghost use Rattle.capi.specs.Answers.{slotRead, fieldWritten, fieldRead};
@@ -55,7 +55,7 @@ pub extern "C" fn kirruskabe_read_field(field: &[u8], out: &mut [u8]) -> u8
 pub extern "C" fn kirruskabe_header_check(mask: u16, octets: &[u8]) -> u16
     ensures { λ r. ⌜ r ≡ headerCheck mask (now (octets .entry)) ⌝ }
 {
-    codes::check::header(mask, octets)
+    checks::header(mask, octets)
 }
 
 // The check of a block's data octets and serial.
@@ -63,7 +63,7 @@ pub extern "C" fn kirruskabe_header_check(mask: u16, octets: &[u8]) -> u16
 pub extern "C" fn kirruskabe_block_check(serial: u8, octets: &[u8]) -> u16
     ensures { λ r. ⌜ r ≡ blockCheck serial (now (octets .entry)) ⌝ }
 {
-    codes::check::block(serial, octets)
+    checks::block(serial, octets)
 }
 
 // The message's check.
@@ -71,5 +71,5 @@ pub extern "C" fn kirruskabe_block_check(serial: u8, octets: &[u8]) -> u16
 pub extern "C" fn kirruskabe_message_check(octets: &[u8]) -> u32
     ensures { λ r. ⌜ r ≡ messageCheck (now (octets .entry)) ⌝ }
 {
-    codes::check::message(octets)
+    checks::message(octets)
 }

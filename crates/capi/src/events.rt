@@ -1,7 +1,7 @@
 // The receiver, for C: its state is its stored form. A stamp has its most significant octet first.
 ghost use mathlib.Core.Path.{_≡_};
 ghost use Prim.Native.Nat.{_/_, _%_};
-ghost use Rattle.bursts.specs.Datagrams.{datagramNumber};
+ghost use Rattle.datagrams.specs.Datagrams.{datagramNumber};
 ghost use Rattle.history.specs.History.{header, block, ended};
 ghost use Rattle.history.specs.Run.{event};
 ghost use Rattle.logs.specs.Log.{act};

@@ -6,7 +6,7 @@ ghost use Rattle.capi.specs.Layouts.{fieldOctets, headerOctets, labelOct
 ghost use Rattle.capi.specs.Answers.{datagramRead, burstRead, headerRead, blockRead, responseRead};
 use crate::lent::give;
 use crate::lent::give_both;
-use bursts::datagram::Labels;
+use datagrams::Labels;
 use packets::header::Common;
 use packets::header::Header;
 use packets::header::HeaderAnswer;
@@ -47,7 +47,7 @@ fn label_octets(labels: Labels, colour: u8, datatype: u8) -> [u8; 19]
 pub extern "C" fn kirruskabe_read_datagram(datagram: &[u8], out: &mut [u8]) -> u8
     ensures { λ r. ⌜ Gives 31 (datagramRead (now (datagram .entry))) (now (out .entry)) r (now (out .exit)) ⌝ }
 {
-    let d = bursts::datagram::read(datagram);
+    let d = datagrams::read(datagram);
     let labels = d.labels;
     let head = label_octets(labels, d.colour, d.datatype);
     give_both(out, d.number, &head, &d.info)
@@ -132,7 +132,7 @@ pub extern "C" fn kirruskabe_read_block(block: &[u8], out: &mut [u8]) -> u8
 pub extern "C" fn kirruskabe_read_response(header: &[u8], block: &[u8], out: &mut [u8]) -> u8
     ensures { λ r. ⌜ Gives 18 (responseRead (now (header .entry)) (now (block .entry))) (now (out .entry)) r (now (out .exit)) ⌝ }
 {
-    let a = packets::response::read(header, block);
+    let a = messages::response::read(header, block);
     let to = addresses::radio_octets(a.destination);
     let from = addresses::radio_octets(a.source);
     let head = [

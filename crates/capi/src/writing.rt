@@ -3,7 +3,7 @@ ghost use mathlib.Core.Path.{_≡_};
 ghost use mathlib.Core.Bool.{cond};
 ghost use lib.Dec.{leb};
 ghost use lib.ListN.{length};
-ghost use Rattle.bursts.specs.Datagrams.{nextSequence};
+ghost use Rattle.datagrams.specs.Datagrams.{nextSequence};
 ghost use Rattle.capi.specs.Lent.{Gives};
 ghost use Rattle.capi.specs.Layouts.{syncOf, replyOf, deliveryOf, commonFrom, headerFrom, labelsFrom};
 ghost use Rattle.capi.specs.Answers.{messageSize, headerBefore, headerAgain, messageBlock, fieldsWritten, blockWritten, responseWritten, burstWritten, datagramWritten};
@@ -11,11 +11,11 @@ use crate::lent::give;
 use crate::lent::give_both;
 use addresses::RadioAddress;
 use bursts::burst::Sync;
-use bursts::datagram::Labels;
+use datagrams::Labels;
+use messages::message::Delivery;
+use messages::response::Reply;
 use packets::header::Common;
 use packets::header::HeaderAnswer;
-use packets::message::Delivery;
-use packets::response::Reply;
 
 // ---- messages
 
@@ -24,7 +24,7 @@ use packets::response::Reply;
 pub extern "C" fn kirruskabe_message_size(octets: usize, out: &mut [u8]) -> u8
     ensures { λ r. ⌜ Gives 2 (messageSize octets) (now (out .entry)) r (now (out .exit)) ⌝ }
 {
-    let size = packets::message::size_of(octets);
+    let size = messages::message::size_of(octets);
     let both = [size.blocks, size.pad];
     give(out, size.number, &both)
 }
@@ -52,7 +52,7 @@ pub extern "C" fn kirruskabe_full_header(
 ) -> u8
     ensures { λ r. ⌜ Gives 12 (headerBefore octets sap ns destination source) (now (out .entry)) r (now (out .exit)) ⌝ }
 {
-    let w = packets::message::full_header(octets, delivery(sap, ns, destination, source));
+    let w = messages::message::full_header(octets, delivery(sap, ns, destination, source));
     give(out, w.number, &w.octets)
 }
 
@@ -69,7 +69,11 @@ pub extern "C" fn kirruskabe_partial_header(
 ) -> u8
     ensures { λ r. ⌜ Gives 12 (headerAgain octets count sap ns destination source) (now (out .entry)) r (now (out .exit)) ⌝ }
 {
-    let w = packets::message::partial_header(octets, delivery(sap, ns, destination, source), count);
+    let w = messages::message::partial_header(
+        octets,
+        delivery(sap, ns, destination, source),
+        count,
+    );
     give(out, w.number, &w.octets)
 }
 
@@ -78,7 +82,7 @@ pub extern "C" fn kirruskabe_partial_header(
 pub extern "C" fn kirruskabe_message_block(message: &[u8], n: usize, out: &mut [u8]) -> u8
     ensures { λ r. ⌜ Gives 12 (messageBlock (now (message .entry)) n) (now (out .entry)) r (now (out .exit)) ⌝ }
 {
-    let w = packets::message::block(message, n);
+    let w = messages::message::block(message, n);
     give(out, w.number, &w.octets)
 }
 
@@ -172,7 +176,7 @@ pub extern "C" fn kirruskabe_write_response(
     if got != 0 {
         return 1;
     }
-    let w = packets::response::write(reply_of(reply), delivery(sap, ns, destination, source), os);
+    let w = messages::response::write(reply_of(reply), delivery(sap, ns, destination, source), os);
     let header = w.header;
     let block = w.block;
     give_both(out, at_most(2, reply, w.number), &header, &block)
@@ -244,7 +248,7 @@ pub extern "C" fn kirruskabe_write_datagram(
     if got != 0 {
         return 1;
     }
-    let w = bursts::datagram::write(labels_from(labels), colour, datatype, os, sync_of(sync));
+    let w = datagrams::write(labels_from(labels), colour, datatype, os, sync_of(sync));
     give(out, at_most(1, sync, w.number), &w.octets)
 }
 
@@ -253,5 +257,5 @@ pub extern "C" fn kirruskabe_write_datagram(
 pub extern "C" fn kirruskabe_next_sequence(sequence: u8) -> u8
     ensures { λ r. ⌜ r ≡ nextSequence sequence ⌝ }
 {
-    bursts::datagram::next_sequence(sequence)
+    datagrams::next_sequence(sequence)
 }

@@ -12,11 +12,5 @@ pub mod Replaced
 pub mod Filling
 pub mod FieldWords
 pub mod FieldWriting
-pub mod Pairs
-pub mod Masked
-pub mod Ends
-pub mod HeaderChecks
-pub mod BlockChecks
-pub mod MessageChecks
 pub mod Claims
 pub mod Examples

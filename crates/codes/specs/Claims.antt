@@ -1,16 +1,14 @@
 -- What a reader of demand 2 wants of the codes.
 -- Assumes nothing.
 use mathlib.Core.Path.{_≡_}
-use mathlib.Core.Bool.{true}
-use mathlib.Core.List.{List, [], _∷_, _++_}
+use mathlib.Core.List.{List}
 use mathlib.Core.Logic.{_≢_}
-use Prim.Native.Nat.{ℕ, _+_, _*_, _-_, _/_, _%_, _^_, _≤_, _<_}
+use Prim.Native.Nat.{ℕ, _+_, _-_, _^_, _≤_, _<_}
 use lib.ListN.{length, getD}
 use Rattle.polynomials.specs.Bits.{Bits}
 use Rattle.codes.specs.SlotWord.{slotWord, distance, readSlotType}
 use Rattle.codes.specs.Hamming.{syndrome, withParity, power, corrected, errors}
 use Rattle.codes.specs.Field.{sentAt, plainAt, writtenField, readField, Correctable}
-use Rattle.codes.specs.Checks.{headerCheck, blockCheck, messageCheck, lowestFirst, headerGood, blockGood, messageGood}
 use Rattle.codes.specs.declared.slot_type.SlotType.the-variants.{Data, NoCodeword, TooWide}
 
 pub record SlotTypeClaims : Type 0 where
@@ -50,14 +48,7 @@ pub record BlockFieldClaims : Type 0 where
   pub corrects : (os f : List ℕ) → length os ≡ 12 → ((j : ℕ) → getD os j 0 < 256) → length f ≡ 25 → Correctable (writtenField os) f
       → readField f ≡ record { number = 0; info = os }
 
--- octets that are written with their check are found good
-pub record CheckClaims : Type 0 where
-  pub header : (mask : ℕ) (os : List ℕ) → headerGood mask (os ++ (headerCheck mask os / 256 ∷ headerCheck mask os % 256 ∷ [])) ≡ true
-  pub block : (serial : ℕ) (os : List ℕ) → serial < 128 → blockGood ((serial * 2 + blockCheck serial os / 256) ∷ blockCheck serial os % 256 ∷ os) ≡ true
-  pub message : (os : List ℕ) → messageGood (os ++ lowestFirst (messageCheck os)) ≡ true
-
 pub record CodesClaims : Type 0 where
   pub slotTypes : SlotTypeClaims
   pub hamming : HammingClaims
   pub blockFields : BlockFieldClaims
-  pub checks : CheckClaims

@@ -8,8 +8,8 @@ use native.Mathlib.Omega.{arith}
 use lib.Dec.{eqb}
 use lib.ListN.{getD, take}
 use borrow.Author.Tests.{eqb-false}
-use Rattle.codes.specs.Checks.{messageGood}
-use Rattle.packets.specs.Messages.{blockSize}
+use Rattle.checks.specs.Checks.{messageGood}
+use Rattle.messages.specs.Messages.{blockSize}
 use Rattle.transactions.specs.Transactions.{isFull, repeats, serialOf, dataOf}
 use Rattle.transactions.specs.Flags.{withFlag}
 use Rattle.transactions.specs.Answers.{Said, refused, opened, repeat, stored, bad, message, response, numberOf, responseSaid}

@@ -11,9 +11,9 @@ use lib.Dec.{eqb}
 use lib.ListN.{length, getD, replicate, length-replicate}
 use borrow.Author.Tests.{eq-eqb, ne-eqb, eqb-true}
 use Rattle.codes.specs.Order.{firstFailed}
-use Rattle.bursts.specs.Datagrams.{datagramNumber, readDatagram}
-use Rattle.bursts.specs.declared.datagram.Datagram.{Datagram}
-use Rattle.bursts.proofs.DatagramNumbers.{read-number}
+use Rattle.datagrams.specs.Datagrams.{datagramNumber, readDatagram}
+use Rattle.datagrams.specs.declared.Datagram.{Datagram}
+use Rattle.datagrams.proofs.DatagramNumbers.{read-number}
 use Rattle.transactions.specs.Answers.{refused, numberOf}
 use Rattle.transactions.proofs.Tests.{either}
 use Rattle.receiver.specs.declared.state.Receiver.{Receiver}

@@ -9,7 +9,7 @@ use lib.ListN.{length, replicate}
 use Rattle.addresses.specs.Octets.{addressAt}
 use Rattle.addresses.specs.declared.RadioAddress.{RadioAddress}
 use Rattle.codes.specs.Order.{firstFailed}
-use Rattle.bursts.specs.Datagrams.{readDatagram}
+use Rattle.datagrams.specs.Datagrams.{readDatagram}
 use Rattle.transactions.specs.Answers.{numberOf}
 use Rattle.receiver.specs.Receiver.{storeSize, freshReceiver, freshFor}
 use Rattle.stored.specs.Stored.{storedBlock, saved, block0, block1, receiverIn, storeIn, restoreNumber}

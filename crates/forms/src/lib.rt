@@ -3,7 +3,7 @@ ghost use mathlib.Core.Path.{_≡_};
 ghost use Prim.Native.Nat.{_*_, _^_, _<_};
 ghost use lib.ListN.{length, replicate};
 ghost use Rattle.addresses.specs.Octets.{addressAt};
-ghost use Rattle.bursts.specs.Datagrams.{datagramNumber};
+ghost use Rattle.datagrams.specs.Datagrams.{datagramNumber};
 ghost use Rattle.history.specs.History.{header, block, ended};
 ghost use Rattle.history.specs.Run.{event};
 ghost use Rattle.history.specs.Claims.{Octets};
@@ -171,7 +171,7 @@ pub fn on_datagram(form: &mut [u8], s0: u8, s1: u8, datagram: &[u8], line: &mut 
         × (now (line .exit)
         ≡ lineAfter (now (form .entry)) (now (line .entry)) (datagramNumber (now (datagram .entry))) (carried (now (datagram .entry)))) ⌝ }
 {
-    let read = bursts::datagram::read(datagram);
+    let read = datagrams::read(datagram);
     let number = read.number;
     let info = read.info;
     if read.datatype == HEADER_TYPE {

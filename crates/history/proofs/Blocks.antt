@@ -11,9 +11,9 @@ use lib.Seq.{take-take}
 use borrow.Author.Tests.{eqb-true, eqb-false, eq-eqb, ne-eqb, ltb-true}
 use Rattle.addresses.specs.declared.RadioAddress.{RadioAddress}
 use Rattle.codes.specs.Order.{firstFailed}
-use Rattle.codes.specs.Checks.{messageGood}
+use Rattle.checks.specs.Checks.{messageGood}
 use Rattle.packets.specs.Blocks.{blockTests}
-use Rattle.packets.specs.Messages.{blockSize, checkSize}
+use Rattle.messages.specs.Messages.{blockSize, checkSize}
 use Rattle.transactions.specs.Transactions.{serialOf, dataOf, takenTests, takenNumber}
 use Rattle.transactions.specs.Flags.{flagged, withFlag}
 use Rattle.transactions.specs.Answers.{message}

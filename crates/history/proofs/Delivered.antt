@@ -8,18 +8,18 @@ use native.Mathlib.Omega.{arith}
 use lib.ListN.{length, take, replicate}
 use borrow.Author.Tests.{eq-eqb, le-leb, lt-ltb}
 use Rattle.codes.specs.Order.{firstFailed}
-use Rattle.codes.specs.Checks.{blockGood}
+use Rattle.checks.specs.Checks.{blockGood}
 use Rattle.codes.proofs.Tests.{every-true}
 use Rattle.packets.specs.Headers.{headerTests, headerNumber, writtenHeader, widthNumber, writeHeader}
 use Rattle.packets.specs.Blocks.{blockTests, writtenBlock}
-use Rattle.packets.specs.Messages.{blockSize, checkSize, mostBlocks, mostOctets, blocksOf, padOf, laidOut, blockData, Within, confirmedFsn, attemptHeader, fullHeader}
+use Rattle.messages.specs.Messages.{blockSize, checkSize, mostBlocks, mostOctets, blocksOf, padOf, laidOut, blockData, Within, confirmedFsn, attemptHeader, fullHeader}
 use Rattle.packets.specs.declared.header.Header.{Header}
 use Rattle.packets.specs.declared.header.HeaderOctets.{HeaderOctets}
 use Rattle.packets.specs.declared.block.Block.{Block}
-use Rattle.packets.specs.declared.message.Delivery.{Delivery}
+use Rattle.messages.specs.declared.message.Delivery.{Delivery}
 use Rattle.packets.proofs.HeaderClaims.{claims as headers}
 use Rattle.packets.proofs.BlockClaims.{claims as blocks}
-use Rattle.packets.proofs.MessageClaims.{messages}
+use Rattle.messages.proofs.MessageClaims.{messages}
 use Rattle.packets.proofs.HeaderBack.{written-format, written-last, written-common, written-octets}
 use Rattle.packets.proofs.BlockBack.{written-length, written-good}
 use Rattle.transactions.specs.Transactions.{transactionOf, isFull, heardTests, heardNumber, repeats, serialOf, dataOf, takenTests, takenNumber, all}

@@ -9,7 +9,8 @@ use lib.Dec.{eqb, leb}
 use lib.ListN.{replicate}
 use borrow.Author.Tests.{le-leb, ne-eqb}
 use Rattle.codes.proofs.Examples.{examples as codes}
-use Rattle.packets.proofs.PacketExamples.{examples as messages}
+use Rattle.checks.proofs.Examples.{examples as checks}
+use Rattle.messages.proofs.PacketExamples.{examples as messages}
 use Rattle.transactions.specs.Flags.{weights, flagOctets}
 use Rattle.transactions.specs.Answers.{sackFlags}
 use Rattle.transactions.specs.declared.header.Transaction.{Transaction}
@@ -32,4 +33,4 @@ module _ (t : Transaction) (held : ℕ → Bool) (three : t .blocks ≡ 3) (firs
   flags = ap flagOctets (λ i n. all-but-1 n i)
 
 pub examples : PExamples
-examples = record { codes = codes; messages = messages; flags = flags }
+examples = record { codes = codes; checks = checks; messages = messages; flags = flags }

@@ -11,8 +11,8 @@ use borrow.Author.Tests.{eqb-true, lt-ltb, le-leb}
 use Rattle.addresses.specs.declared.RadioAddress.{RadioAddress}
 use Rattle.codes.specs.Order.{every}
 use Rattle.codes.proofs.Tests.{every-true}
-use Rattle.packets.specs.Messages.{blockSize}
-use Rattle.packets.proofs.MessageLayout.{joined-parts}
+use Rattle.messages.specs.Messages.{blockSize}
+use Rattle.messages.proofs.MessageLayout.{joined-parts}
 use Rattle.packets.proofs.Octets.{octets-zeros}
 use Rattle.transactions.specs.Flags.{flagOctetCount, flagCount, flagged}
 use Rattle.transactions.specs.declared.header.Transaction.{Transaction}

@@ -11,16 +11,16 @@ use lib.ListN.{length, take}
 use borrow.Author.Tests.{eq-eqb, ne-eqb, leb-true}
 use Rattle.addresses.specs.declared.RadioAddress.{RadioAddress}
 use Rattle.codes.specs.Order.{firstFailed}
-use Rattle.codes.specs.Checks.{messageGood}
+use Rattle.checks.specs.Checks.{messageGood}
 use Rattle.packets.specs.Headers.{writtenHeader, widthNumber, writeHeader}
 use Rattle.packets.specs.Blocks.{writtenBlock}
-use Rattle.packets.specs.Messages.{blockSize, checkSize, mostOctets, blocksOf, sizeOf, blockData, writeMessageBlock, Within, attemptHeader, fullHeader}
+use Rattle.messages.specs.Messages.{blockSize, checkSize, mostOctets, blocksOf, sizeOf, blockData, writeMessageBlock, Within, attemptHeader, fullHeader}
 use Rattle.packets.specs.declared.header.HeaderOctets.{HeaderOctets}
 use Rattle.packets.specs.declared.block.BlockOctets.{BlockOctets}
-use Rattle.packets.specs.declared.message.Delivery.{Delivery}
-use Rattle.packets.specs.declared.message.Size.{Size}
+use Rattle.messages.specs.declared.message.Delivery.{Delivery}
+use Rattle.messages.specs.declared.message.Size.{Size}
 use Rattle.packets.proofs.HeaderBack.{common-fits, last-fits}
-use Rattle.packets.proofs.MessageClaims.{messages}
+use Rattle.messages.proofs.MessageClaims.{messages}
 use Rattle.transactions.specs.Transactions.{serialOf}
 use Rattle.transactions.specs.Answers.{message}
 use Rattle.transactions.specs.declared.header.Transaction.{Transaction}

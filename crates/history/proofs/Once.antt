@@ -8,8 +8,8 @@ use lib.Dec.{eqb}
 use lib.ListN.{take}
 use borrow.Author.Tests.{eqb-true}
 use Rattle.addresses.specs.declared.RadioAddress.{RadioAddress}
-use Rattle.codes.specs.Checks.{messageGood}
-use Rattle.packets.specs.declared.response.ResponseOctets.{ResponseOctets}
+use Rattle.checks.specs.Checks.{messageGood}
+use Rattle.messages.specs.declared.response.ResponseOctets.{ResponseOctets}
 use Rattle.transactions.specs.Transactions.{all, transactionOf, isFull, heardNumber, repeats, serialOf}
 use Rattle.transactions.specs.Answers.{Said, refused, opened, repeat, stored, bad, message, response, responseTo, responseSaid}
 use Rattle.transactions.specs.declared.header.Transaction.{Transaction}

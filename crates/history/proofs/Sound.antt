@@ -9,9 +9,9 @@ use lib.Dec.{eqb, leb}
 use borrow.Author.Tests.{eqb-true, ne-eqb, ltb-true, leb-true, lt-ltb}
 use Rattle.addresses.specs.declared.RadioAddress.{RadioAddress}
 use Rattle.codes.specs.Order.{firstFailed}
-use Rattle.codes.specs.Checks.{messageGood}
+use Rattle.checks.specs.Checks.{messageGood}
 use Rattle.packets.specs.Headers.{headerTests, commonOf}
-use Rattle.packets.specs.Messages.{blockSize, checkSize, mostBlocks}
+use Rattle.messages.specs.Messages.{blockSize, checkSize, mostBlocks}
 use Rattle.transactions.specs.Transactions.{all, transactionOf, isFull, heardTests, heardNumber, serialOf}
 use Rattle.transactions.specs.declared.header.Transaction.{Transaction}
 use Rattle.transactions.proofs.Tests.{either, never}

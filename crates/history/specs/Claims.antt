@@ -6,8 +6,8 @@ use mathlib.Core.List.{List, [], _∷_, _++_}
 use Prim.Native.Nat.{ℕ, zero, suc, _-_, _^_, _≤_, _<_}
 use lib.ListN.{length, getD, replicate}
 use Rattle.addresses.specs.declared.RadioAddress.{RadioAddress}
-use Rattle.packets.specs.Messages.{mostOctets, blocksOf, writeMessageBlock, fullHeader, Within}
-use Rattle.packets.specs.declared.message.Delivery.{Delivery}
+use Rattle.messages.specs.Messages.{mostOctets, blocksOf, writeMessageBlock, fullHeader, Within}
+use Rattle.messages.specs.declared.message.Delivery.{Delivery}
 use Rattle.transactions.specs.Answers.{Said, refused, opened, repeat, stored, bad, message, response}
 use Rattle.receiver.specs.Receiver.{storeSize, freshReceiver, held}
 use Rattle.receiver.specs.Events.{blockAt}

@@ -6,13 +6,16 @@ use mathlib.Core.List.{_∷_}
 use Prim.Native.Nat.{ℕ}
 use lib.ListN.{replicate}
 use Rattle.codes.specs.Examples.{CodesExamples}
-use Rattle.packets.specs.PacketExamples.{MessageExamples}
+use Rattle.checks.specs.Examples.{CheckExamples}
+use Rattle.messages.specs.PacketExamples.{MessageExamples}
 use Rattle.transactions.specs.Answers.{sackFlags}
 use Rattle.transactions.specs.declared.header.Transaction.{Transaction}
 
 pub record PExamples : Type 0 where
-  -- slot types, parities, sent positions, the field's ones, the two checks
+  -- slot types, parities, sent positions, the field's ones
   pub codes : CodesExamples
+  -- the two checks
+  pub checks : CheckExamples
   -- sizes, octet 9 of the responses
   pub messages : MessageExamples
   -- B = 3, only block 1 missing

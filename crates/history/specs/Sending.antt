@@ -7,8 +7,8 @@ use Prim.Native.Nat.{ℕ}
 use lib.Dec.{eqb}
 use lib.ListN.{length, take}
 use Rattle.codes.specs.Order.{firstFailed}
-use Rattle.packets.specs.Messages.{fullHeader}
-use Rattle.packets.specs.declared.message.Delivery.{Delivery}
+use Rattle.messages.specs.Messages.{fullHeader}
+use Rattle.messages.specs.declared.message.Delivery.{Delivery}
 use Rattle.receiver.specs.Receiver.{storeSize}
 use Rattle.receiver.specs.declared.event.Answer.{Answer}
 use Rattle.receiver.specs.declared.event.Answer.the-variants.{Refused, Message}

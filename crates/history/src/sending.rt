@@ -2,7 +2,7 @@
 ghost use Rattle.history.specs.Claims.{Delivered};
 ghost use Rattle.history.specs.Examples.{PExamples};
 ghost use Rattle.history.specs.Sending.{LoopsBack};
-use packets::message::Delivery;
+use messages::message::Delivery;
 use receiver::event::Answer;
 use receiver::state::STORE;
 
@@ -15,7 +15,7 @@ pub fn loop_back(message: &[u8], d: Delivery, store: &mut [u8]) -> Answer
     if store.len() != STORE {
         return Answer::Refused(1);
     }
-    let header = packets::message::full_header(message.len(), d);
+    let header = messages::message::full_header(message.len(), d);
     if header.number != 0 {
         return Answer::Refused(16);
     }
@@ -25,11 +25,11 @@ pub fn loop_back(message: &[u8], d: Delivery, store: &mut [u8]) -> Answer
     let opened = receiver::event::on_header(first, &octets);
     let mut rx = opened.receiver;
     let mut last = opened.answer;
-    let size = packets::message::size_of(message.len());
+    let size = messages::message::size_of(message.len());
     let blocks = size.blocks as usize;
     let mut n: usize = 0;
     while n < blocks {
-        let block = packets::message::block(message, n);
+        let block = messages::message::block(message, n);
         let os = block.octets;
         let step = receiver::event::on_block(rx, store, &os);
         rx = step.receiver;

@@ -7,7 +7,7 @@ use Prim.Native.Nat.{ℕ, zero, suc, _+_, _*_, _/_, _%_}
 use native.Mathlib.Omega.{arith}
 use lib.ListN.{getD}
 use Rattle.addresses.specs.declared.RadioAddress.{RadioAddress}
-use Rattle.packets.specs.Messages.{blockSize}
+use Rattle.messages.specs.Messages.{blockSize}
 use Rattle.transactions.specs.Flags.{flagged, flagOctets}
 use Rattle.transactions.specs.declared.header.Transaction.{Transaction}
 use Rattle.transactions.proofs.FlagOctets.{octets-of-flags}

@@ -10,7 +10,7 @@ use lib.Dec.{ltb}
 use lib.ListN.{length, getD, take, replicate, length-append, length-replicate}
 use lib.Seq.{getD-append-add, take-all, take-length}
 use borrow.Author.Tests.{eq-eqb, ne-eqb, ltb-true, ltb-false}
-use Rattle.packets.specs.declared.response.ResponseOctets.{ResponseOctets}
+use Rattle.messages.specs.declared.response.ResponseOctets.{ResponseOctets}
 use Rattle.transactions.specs.Answers.{refused, response, responseSaid}
 use Rattle.transactions.proofs.Tests.{either}
 use Rattle.receiver.specs.Events.{said}

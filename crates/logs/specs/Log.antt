@@ -9,7 +9,7 @@ use lib.ListN.{length, getD, take, drop, replicate}
 use Rattle.addresses.specs.Octets.{addressAt}
 use Rattle.addresses.specs.declared.RadioAddress.{RadioAddress}
 use Rattle.codes.specs.Order.{firstFailed}
-use Rattle.packets.specs.Messages.{blockSize}
+use Rattle.messages.specs.Messages.{blockSize}
 use Rattle.transactions.specs.Transactions.{all}
 use Rattle.transactions.specs.Flags.{flagOctets}
 use Rattle.transactions.specs.Answers.{Said, refused, opened, repeat, stored, bad, message, response}

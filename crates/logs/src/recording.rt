@@ -14,7 +14,7 @@ ghost use Rattle.history.specs.History.{header, block};
 ghost use Rattle.history.specs.Run.{event};
 ghost use Rattle.logs.specs.Claims.{RecordRefused};
 ghost use Rattle.logs.specs.Log.{lineSize, answer, restored, act, recordOf, lineOctets, lineIn, lineOf, restartOf, afterRecord, stateOf, recorded, recordStore, recordLine};
-use packets::response::ResponseOctets;
+use messages::response::ResponseOctets;
 use receiver::event::Answer;
 use receiver::state::Receiver;
 use receiver::state::STORE;

@@ -5,8 +5,7 @@ use addresses::RadioAddress;
 use addresses::RepeaterNumber;
 use bursts::burst;
 use bursts::burst::Sync;
-use bursts::datagram;
-use bursts::datagram::Labels;
+use datagrams::Labels;
 use report::Tally;
 
 fn info() -> [u8; 12] {
@@ -100,7 +99,7 @@ fn carried(t: Tally, text: &[u8], octets: &[u8], expected: u32) -> Tally
     ensures { λ r. ⌜ r .cases ≡ (t .cases + 1) % 2 ^ 32 ⌝ }
 {
     report::name(b"reading a datagram, ", text);
-    report::number(t, 1, report::wide(datagram::read(octets).number), expected)
+    report::number(t, 1, report::wide(datagrams::read(octets).number), expected)
 }
 
 // The datagram of these labels and the burst above.
@@ -111,7 +110,7 @@ fn datagram_octets() -> [u8; 53] {
 fn written_datagram(t: Tally) -> Tally
     ensures { λ r. ⌜ r .cases ≡ (t .cases + 1) % 2 ^ 32 ⌝ }
 {
-    let octets = datagram::write(labels(), 1, 6, info(), Sync::Base).octets;
+    let octets = datagrams::write(labels(), 1, 6, info(), Sync::Base).octets;
     report::name(b"writing a datagram", b"");
     report::octets(t, &octets, &datagram_octets())
 }
@@ -120,14 +119,14 @@ fn written_datagram(t: Tally) -> Tally
 fn read_datagram(mut t: Tally) -> Tally
     ensures { λ r. ⌜ r .cases ≡ (t .cases + 3) % 2 ^ 32 ⌝ }
 {
-    let found = datagram::read(&datagram_octets());
+    let found = datagrams::read(&datagram_octets());
     let got = found.info;
     report::name(b"reading this datagram, ", b"information");
     t = report::octets(t, &got, &info());
     report::name(b"reading this datagram, ", b"stream");
     t = report::number(t, 8, found.labels.stream, 0xCAFE0001);
     report::name(b"sequence counter after ", b"ff");
-    report::number(t, 2, report::wide(datagram::next_sequence(255)), 0)
+    report::number(t, 2, report::wide(datagrams::next_sequence(255)), 0)
 }
 
 fn damaged_datagrams(mut t: Tally) -> Tally

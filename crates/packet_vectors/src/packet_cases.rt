@@ -2,13 +2,13 @@
 ghost use mathlib.Core.Path.{_≡_};
 ghost use Prim.Native.Nat.{_+_, _%_, _^_};
 use addresses::RadioAddress;
+use messages::message;
+use messages::message::Delivery;
+use messages::response;
+use messages::response::Reply;
 use packets::block;
 use packets::header;
 use packets::header::HeaderAnswer;
-use packets::message;
-use packets::message::Delivery;
-use packets::response;
-use packets::response::Reply;
 use report::Tally;
 
 // N(S) 5 and SAP 4, from 1a0b0c to 002104.

@@ -2,7 +2,7 @@
 ghost use mathlib.Core.Path.{_≡_};
 ghost use Prim.Native.Nat.{_+_, _%_, _^_};
 use addresses::RadioAddress;
-use packets::response::ResponseOctets;
+use messages::response::ResponseOctets;
 use receiver::event::Answer;
 use receiver::state::Receiver;
 use receiver::state::STORE;
@@ -40,7 +40,7 @@ fn handed_on(a: Answer) -> u32 {
 
 // A message of 13 octets, written and given whole and in order to a fresh receiver of its destination.
 fn looped(store: &mut [u8]) -> u32 {
-    let d = packets::message::Delivery {
+    let d = messages::message::Delivery {
         sap: 4,
         ns: 5,
         destination: RadioAddress(0x002104),

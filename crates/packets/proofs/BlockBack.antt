@@ -6,8 +6,8 @@ use mathlib.Core.List.{List, _∷_}
 use Prim.Native.Nat.{ℕ, zero, suc, _+_, _*_, _/_, _%_, _<_}
 use native.Mathlib.Omega.{arith}
 use lib.ListN.{length, getD}
-use Rattle.codes.specs.Checks.{blockCheck, blockGood}
-use Rattle.codes.proofs.BlockChecks.{blockCheck-lt, block-carried}
+use Rattle.checks.specs.Checks.{blockCheck, blockGood}
+use Rattle.checks.proofs.BlockChecks.{blockCheck-lt, block-carried}
 use Rattle.packets.specs.Blocks.{readBlock, writtenBlock}
 use Rattle.packets.proofs.BlockReading.{accepted}
 

@@ -11,7 +11,7 @@ use lib.ListN.{length, getD, drop, length-drop}
 use lib.Seq.{getD-drop}
 use Rattle.polynomials.proofs.Runs.{tabulated}
 use Rattle.codes.specs.Order.{firstFailed}
-use Rattle.codes.specs.Checks.{blockGood}
+use Rattle.checks.specs.Checks.{blockGood}
 use Rattle.codes.proofs.Filling.{Filled, filled-done}
 use Rattle.packets.specs.Blocks.{blockTests, blockNumber, refusedBlock, readBlock}
 

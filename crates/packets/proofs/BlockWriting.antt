@@ -9,7 +9,7 @@ use lib.ListN.{length, getD, set, replicate}
 use lib.Seq.{getD-append-add}
 use Rattle.polynomials.proofs.Runs.{tabulated}
 use Rattle.codes.specs.Order.{firstFailed}
-use Rattle.codes.specs.Checks.{blockCheck}
+use Rattle.checks.specs.Checks.{blockCheck}
 use Rattle.codes.proofs.Filling.{Filled, filled-start, filled-more, filled-done}
 use Rattle.packets.specs.Blocks.{writtenBlock, partTests, writeBlock}
 

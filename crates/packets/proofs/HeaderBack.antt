@@ -7,8 +7,8 @@ use Prim.Native.Nat.{ℕ, _+_, _*_, _/_, _%_, _<_}
 use native.Mathlib.Omega.{arith}
 use lib.Dec.{lit<}
 use lib.ListN.{length, getD}
-use Rattle.codes.specs.Checks.{headerGood}
-use Rattle.codes.proofs.HeaderChecks.{headerCheck-lt, header-carried}
+use Rattle.checks.specs.Checks.{headerGood}
+use Rattle.checks.proofs.HeaderChecks.{headerCheck-lt, header-carried}
 use Rattle.packets.specs.Headers.{headerMask, part, commonOf, formatOf, headerOf, readHeader, knownFormat, formatNumber, commonFields, lastOctet, headerBody, withCheck, writtenHeader, commonWidths, lastWidths, widthNumber}
 use Rattle.packets.specs.Parts.{CommonWithin, LastWithin}
 use Rattle.packets.specs.declared.header.Common.{Common}

@@ -11,7 +11,7 @@ use lib.Dec.{eqb, ltb}
 use lib.ListN.{length, getD}
 use Rattle.addresses.specs.declared.RadioAddress.{RadioAddress}
 use Rattle.codes.specs.Order.{firstFailed}
-use Rattle.codes.specs.Checks.{headerGood}
+use Rattle.checks.specs.Checks.{headerGood}
 use Rattle.packets.specs.Headers.{headerMask, part, commonOf, formatOf, headerOf, knownFormat, headerTests, readHeader, headerNumber}
 use Rattle.packets.specs.declared.header.Common.{Common}
 use Rattle.packets.specs.declared.header.Header.the-variants.{Response, Unconfirmed, Confirmed}

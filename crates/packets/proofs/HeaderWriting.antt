@@ -9,7 +9,7 @@ use borrow.Author.Tests.{ltb-true, eqb-true, lt-ltb, ne-eqb}
 use lib.Dec.{ltb}
 use lib.ListN.{getD, replicate}
 use Rattle.addresses.specs.Octets.{threeOctets}
-use Rattle.codes.specs.Checks.{headerCheck}
+use Rattle.checks.specs.Checks.{headerCheck}
 use Rattle.codes.specs.Order.{firstFailed}
 use Rattle.packets.specs.Headers.{headerMask, formatNumber, commonFields, lastOctet, headerBody, withCheck, writtenHeader, commonWidths, lastWidths, widths, widthNumber, writeHeader}
 use Rattle.packets.specs.Parts.{CommonWithin, LastWithin}

@@ -9,10 +9,3 @@ pub mod Reserved
 pub mod HeaderClaims
 pub mod BlockBack
 pub mod BlockClaims
-pub mod MessageLayout
-pub mod ResponseReading
-pub mod MessageClaims
-pub mod ResponseClaims
-pub mod PacketExamples
-pub mod MessageParts
-pub mod ResponseParts

@@ -6,7 +6,7 @@ use native.Mathlib.Omega.{arith}
 use lib.Dec.{lit<}
 use lib.ListN.{take, drop, getD, replicate}
 use lib.Seq.{getD-drop}
-use Rattle.codes.specs.Checks.{lowestFirst}
+use Rattle.checks.specs.Checks.{lowestFirst}
 
 abbrev pub Octets : List ℕ → Type 0
 Octets os = (i : ℕ) → getD os i 0 < 256

@@ -7,7 +7,7 @@ use Prim.Native.Nat.{ℕ, _+_, _*_, _/_, _%_}
 use native.Mathlib.Omega.{arith}
 use native.Mathlib.Decide.{ℕ-discrete}
 use lib.ListN.{length, getD}
-use Rattle.codes.specs.Checks.{headerGood}
+use Rattle.checks.specs.Checks.{headerGood}
 use Rattle.packets.specs.Headers.{headerMask, part, commonOf, formatOf, headerOf, knownFormat, readHeader}
 use Rattle.packets.specs.HeaderClaims.{SameButReserved}
 use Rattle.packets.specs.declared.header.HeaderAnswer.the-variants.{Accepted}

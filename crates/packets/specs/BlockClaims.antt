@@ -6,7 +6,7 @@ use mathlib.Core.List.{List}
 use mathlib.Core.Logic.{_↔_, _≢_}
 use Prim.Native.Nat.{ℕ, _/_, _≤_, _<_}
 use lib.ListN.{length, getD, drop, replicate}
-use Rattle.codes.specs.Checks.{blockGood}
+use Rattle.checks.specs.Checks.{blockGood}
 use Rattle.packets.specs.Blocks.{readBlock, writtenBlock, writeBlock}
 
 pub record BlockClaims : Type 0 where

@@ -6,7 +6,7 @@ use Prim.Native.Nat.{ℕ, _+_, _*_, _/_, _%_}
 use lib.Dec.{eqb, ltb}
 use lib.ListN.{length, getD, drop, replicate}
 use Rattle.codes.specs.Order.{firstFailed}
-use Rattle.codes.specs.Checks.{blockCheck, blockGood}
+use Rattle.checks.specs.Checks.{blockCheck, blockGood}
 use Rattle.packets.specs.declared.block.Block.{Block}
 use Rattle.packets.specs.declared.block.BlockOctets.{BlockOctets}
 

@@ -8,7 +8,7 @@ use lib.Dec.{eqb, ltb}
 use lib.ListN.{length, getD, replicate}
 use Rattle.addresses.specs.Octets.{addressAt, threeOctets}
 use Rattle.codes.specs.Order.{firstFailed}
-use Rattle.codes.specs.Checks.{headerCheck, headerGood}
+use Rattle.checks.specs.Checks.{headerCheck, headerGood}
 use Rattle.packets.specs.declared.header.Common.{Common}
 use Rattle.packets.specs.declared.header.Header.{Header}
 use Rattle.packets.specs.declared.header.Header.the-variants.{Response, Unconfirmed, Confirmed}

@@ -1,10 +1,5 @@
 pub mod Headers
 pub mod Blocks
-pub mod Messages
-pub mod Responses
 pub mod HeaderClaims
 pub mod BlockClaims
-pub mod MessageClaims
-pub mod ResponseClaims
-pub mod PacketExamples
 pub mod Parts

@@ -48,7 +48,7 @@ pub fn read(octets: &[u8]) -> Block
     if octets.len() != 12 {
         return refused(1);
     }
-    if !codes::check::block_good(octets) {
+    if !checks::block_good(octets) {
         return refused(13);
     }
     Block {
@@ -63,7 +63,7 @@ fn octets_of(serial: u8, octets: &[u8]) -> [u8; 12]
     requires { ⌜ (serial < 128) × (length (now octets) ≡ 10) ⌝ }
     ensures { λ r. ⌜ r ≡ writtenBlock serial (now (octets .entry)) ⌝ }
 {
-    let check = codes::check::block(serial, octets);
+    let check = checks::block(serial, octets);
     let mut os = [0u8; 12];
     os[0] = 2 * serial + (check / 256) as u8;
     os[1] = (check % 256) as u8;

@@ -97,7 +97,7 @@ pub fn read(octets: &[u8]) -> HeaderAnswer
     if octets.len() != 12 {
         return HeaderAnswer::Refused(1);
     }
-    let good = codes::check::header_good(MASK, octets);
+    let good = checks::header_good(MASK, octets);
     let format_known = known(octets[0] % 16);
     if !good {
         return HeaderAnswer::Refused(8);
@@ -215,7 +215,7 @@ fn octets_of(format: u8, c: Common, last: u8) -> [u8; 12]
     os[7] = from[2];
     os[8] = 128 * c.full + c.blocks;
     os[9] = last;
-    let check = codes::check::header(MASK, &os[..10]);
+    let check = checks::header(MASK, &os[..10]);
     os[10] = (check / 256) as u8;
     os[11] = (check % 256) as u8;
     os

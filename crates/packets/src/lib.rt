@@ -1,5 +1,3 @@
-// Headers, blocks, messages and responses: octets to fields and back.
+// Headers and blocks: octets to fields and back.
 pub mod block;
 pub mod header;
-pub mod message;
-pub mod response;

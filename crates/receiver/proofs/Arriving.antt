@@ -9,9 +9,9 @@ use native.Mathlib.Omega.{arith}
 use lib.Dec.{eqb}
 use lib.ListN.{length}
 use borrow.Author.Tests.{eq-eqb, ne-eqb}
-use Rattle.bursts.specs.Datagrams.{readDatagram}
-use Rattle.bursts.specs.declared.datagram.Datagram.{Datagram}
-use Rattle.bursts.proofs.DatagramClaims.{datagrams}
+use Rattle.datagrams.specs.Datagrams.{readDatagram}
+use Rattle.datagrams.specs.declared.Datagram.{Datagram}
+use Rattle.datagrams.proofs.DatagramClaims.{datagrams}
 use Rattle.transactions.specs.Flags.{flagged}
 use Rattle.transactions.specs.Transactions.{transactionOf, isFull, heardNumber, heardOf, belongs, repeats}
 use Rattle.transactions.specs.Answers.{noResponse, responseTo}

@@ -8,11 +8,11 @@ use native.Mathlib.Omega.{arith}
 use lib.Dec.{eqb}
 use lib.ListN.{length, take}
 use borrow.Author.Tests.{eqb-true, eqb-false}
-use Rattle.codes.specs.Checks.{messageGood}
-use Rattle.packets.specs.Messages.{blockSize, checkSize}
+use Rattle.checks.specs.Checks.{messageGood}
+use Rattle.messages.specs.Messages.{blockSize, checkSize}
 use Rattle.bursts.specs.Bursts.{kindOf, known}
-use Rattle.bursts.specs.Datagrams.{namedType, datagramNumber, readDatagram}
-use Rattle.bursts.proofs.DatagramClaims.{datagrams}
+use Rattle.datagrams.specs.Datagrams.{namedType, datagramNumber, readDatagram}
+use Rattle.datagrams.proofs.DatagramClaims.{datagrams}
 use Rattle.transactions.specs.Transactions.{isFull, repeats, serialOf, dataOf}
 use Rattle.transactions.specs.Flags.{withFlag}
 use Rattle.transactions.proofs.Tests.{either, never}

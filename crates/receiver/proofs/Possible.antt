@@ -11,7 +11,7 @@ use lib.ListN.{getD}
 use borrow.Author.Tests.{eq-eqb, ne-eqb, lt-ltb, le-ltb, le-leb}
 use Rattle.addresses.specs.declared.RadioAddress.{RadioAddress}
 use Rattle.codes.specs.Order.{every}
-use Rattle.packets.specs.Messages.{blockSize, checkSize, mostBlocks}
+use Rattle.messages.specs.Messages.{blockSize, checkSize, mostBlocks}
 use Rattle.transactions.specs.Flags.{flagCount, flagged}
 use Rattle.transactions.specs.Transactions.{all}
 use Rattle.transactions.specs.declared.header.Transaction.{Transaction}

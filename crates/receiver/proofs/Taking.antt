@@ -8,8 +8,8 @@ use native.Mathlib.Omega.{arith}
 use lib.ListN.{take}
 use borrow.Author.Tests.{leb-true}
 use Rattle.codes.specs.Order.{every}
-use Rattle.codes.specs.Checks.{messageGood}
-use Rattle.packets.specs.Messages.{blockSize, checkSize}
+use Rattle.checks.specs.Checks.{messageGood}
+use Rattle.messages.specs.Messages.{blockSize, checkSize}
 use Rattle.transactions.specs.Flags.{flagged}
 use Rattle.transactions.specs.declared.header.Transaction.{Transaction}
 use Rattle.transactions.proofs.Order.{all-at}

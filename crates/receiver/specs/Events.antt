@@ -5,10 +5,10 @@ use mathlib.Core.List.{List, _++_}
 use Prim.Native.Nat.{ℕ, _+_, _*_, _-_}
 use lib.Dec.{eqb}
 use lib.ListN.{length, take, drop}
-use Rattle.codes.specs.Checks.{messageGood}
-use Rattle.packets.specs.Messages.{blockSize, checkSize}
-use Rattle.packets.specs.declared.response.ResponseOctets.{ResponseOctets}
-use Rattle.bursts.specs.Datagrams.{datagramNumber, readDatagram}
+use Rattle.checks.specs.Checks.{messageGood}
+use Rattle.messages.specs.Messages.{blockSize, checkSize}
+use Rattle.messages.specs.declared.response.ResponseOctets.{ResponseOctets}
+use Rattle.datagrams.specs.Datagrams.{datagramNumber, readDatagram}
 use Rattle.transactions.specs.Transactions.{transactionOf, isFull, heardNumber, repeats, serialOf, dataOf, takenNumber}
 use Rattle.transactions.specs.Flags.{withFlag}
 use Rattle.transactions.specs.Answers.{Said, refused, opened, repeat, stored, bad, message, noResponse, responseTo}

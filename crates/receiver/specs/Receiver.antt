@@ -7,7 +7,7 @@ use lib.Dec.{eqb, leb, ltb}
 use lib.ListN.{replicate}
 use Rattle.addresses.specs.declared.RadioAddress.{RadioAddress}
 use Rattle.codes.specs.Order.{every}
-use Rattle.packets.specs.Messages.{blockSize, checkSize, mostBlocks}
+use Rattle.messages.specs.Messages.{blockSize, checkSize, mostBlocks}
 use Rattle.transactions.specs.Transactions.{all}
 use Rattle.transactions.specs.Flags.{flagOctetCount, flagCount, flagged}
 use Rattle.transactions.specs.declared.header.Transaction.{Transaction}

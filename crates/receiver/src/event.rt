@@ -4,7 +4,7 @@ ghost use Prim.Native.Nat.{_+_, _*_, _≤_};
 ghost use lib.ListN.{length};
 ghost use mathlib.Core.Bool.{true, false, cond};
 ghost use lib.Dec.{eqb};
-ghost use Rattle.packets.specs.Messages.{blockSize};
+ghost use Rattle.messages.specs.Messages.{blockSize};
 ghost use Rattle.transactions.specs.Transactions.{belongs, sameData};
 ghost use Rattle.receiver.specs.Receiver.{storeSize, transactionGood};
 ghost use Rattle.receiver.specs.Events.{answered, onHeader, blockAt, putBlock, taken, onBlock, onEnd, onDatagram};
@@ -13,10 +13,10 @@ ghost use Rattle.receiver.specs.Claims.{HeaderRefused, BlockRefused, Arr
 ghost use Rattle.receiver.specs.Parts.{heardBy, numberWith};
 use crate::state::Receiver;
 use crate::state::STORE;
+use messages::message::BLOCK;
+use messages::message::CHECK;
+use messages::response::ResponseOctets;
 use packets::block::Block;
-use packets::message::BLOCK;
-use packets::message::CHECK;
-use packets::response::ResponseOctets;
 use transactions::header::Heard;
 use transactions::header::Transaction;
 
@@ -175,7 +175,7 @@ fn taken_block(rx: Receiver, store: &[u8]) -> Step
         };
     }
     let size = BLOCK * blocks;
-    if !codes::check::message_good(&store[..size]) {
+    if !checks::message_good(&store[..size]) {
         let receiver = Receiver {
             own,
             phase: 1,
@@ -267,7 +267,7 @@ pub fn on_datagram(rx: Receiver, store: &mut [u8], datagram: &[u8]) -> Step
     if store.len() != STORE {
         return refused(rx, 1);
     }
-    let d = bursts::datagram::read(datagram);
+    let d = datagrams::read(datagram);
     if d.number != 0 {
         return refused(rx, d.number);
     }

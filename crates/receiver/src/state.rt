@@ -5,9 +5,9 @@ ghost use lib.Dec.{eqb};
 ghost use Rattle.transactions.specs.Flags.{flagCount};
 ghost use Rattle.receiver.specs.Receiver.{freshReceiver, freshFor, transactionGood, transactionNone, noneFrom, receiverGood};
 use addresses::RadioAddress;
-use packets::message::BLOCK;
-use packets::message::CHECK;
-use packets::message::MOST_BLOCKS;
+use messages::message::BLOCK;
+use messages::message::CHECK;
+use messages::message::MOST_BLOCKS;
 use transactions::flags::FLAGS;
 use transactions::header::Transaction;
 

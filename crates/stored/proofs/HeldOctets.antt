@@ -12,7 +12,7 @@ use lib.ListN.{length, getD, take, drop, length-drop}
 use lib.Seq.{length-take-le, ext-getD, getD-take, getD-drop}
 use Rattle.codes.specs.Order.{every}
 use Rattle.codes.proofs.Tests.{every-at, every-true}
-use Rattle.packets.specs.Messages.{blockSize, mostBlocks}
+use Rattle.messages.specs.Messages.{blockSize, mostBlocks}
 use Rattle.transactions.proofs.Tests.{either}
 use Rattle.receiver.specs.Receiver.{storeSize, held}
 use Rattle.receiver.specs.Events.{blockAt}

@@ -11,7 +11,7 @@ use lib.Dec.{eqb}
 use lib.ListN.{length, getD, take, drop, length-drop}
 use lib.Seq.{take-all, length-take-le}
 use Rattle.codes.specs.Order.{firstFailed}
-use Rattle.codes.specs.Checks.{headerGood}
+use Rattle.checks.specs.Checks.{headerGood}
 use Rattle.transactions.specs.Transactions.{all}
 use Rattle.transactions.proofs.Order.{all-fails, passed}
 use Rattle.receiver.specs.Receiver.{storeSize, receiverGood}

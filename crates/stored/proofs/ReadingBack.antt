@@ -9,8 +9,8 @@ use lib.ListN.{length, getD, take, drop, replicate, length-append, length-replic
 use lib.Seq.{take-at, drop-at, getD-take, getD-drop}
 use Rattle.addresses.specs.Octets.{addressAt, threeOctets}
 use Rattle.addresses.specs.declared.RadioAddress.{RadioAddress}
-use Rattle.codes.specs.Checks.{headerCheck, headerGood}
-use Rattle.codes.proofs.Claims.{claims as codes-claims}
+use Rattle.checks.specs.Checks.{headerCheck, headerGood}
+use Rattle.checks.proofs.Claims.{claims as check-claims}
 use Rattle.transactions.specs.Flags.{flagOctetCount}
 use Rattle.receiver.specs.Receiver.{storeSize, held}
 use Rattle.receiver.specs.declared.state.Receiver.{Receiver}
@@ -46,7 +46,7 @@ module _ (os : List ℕ) where
 
   pub checked-good : headerGood 0 (withStoredCheck os) ≡ true
   unfolding withStoredCheck
-  checked-good = codes-claims .checks .header 0 os
+  checked-good = check-claims .header 0 os
 
 -- ---- the two blocks in parts
 

@@ -10,8 +10,8 @@ use lib.Dec.{eqb}
 use lib.ListN.{length, getD, take}
 use Rattle.addresses.specs.declared.RadioAddress.{RadioAddress}
 use Rattle.codes.specs.Order.{firstFailed, every}
-use Rattle.codes.specs.Checks.{headerGood, messageGood}
-use Rattle.packets.specs.Messages.{blockSize, mostBlocks}
+use Rattle.checks.specs.Checks.{headerGood, messageGood}
+use Rattle.messages.specs.Messages.{blockSize, mostBlocks}
 use Rattle.transactions.specs.Transactions.{all}
 use Rattle.transactions.specs.Flags.{flagCount, flagged}
 use Rattle.transactions.specs.declared.header.Transaction.{Transaction}

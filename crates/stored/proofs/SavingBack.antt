@@ -12,8 +12,8 @@ use lib.Seq.{length-take-le, take-at, drop-at, take-all, take-add, drop-cons, ge
 use Rattle.addresses.specs.Octets.{addressAt, threeOctets}
 use Rattle.polynomials.specs.Bits.{tabulate}
 use Rattle.codes.specs.Order.{firstFailed}
-use Rattle.codes.specs.Checks.{headerCheck, headerGood}
-use Rattle.codes.proofs.HeaderChecks.{header-long}
+use Rattle.checks.specs.Checks.{headerCheck, headerGood}
+use Rattle.checks.proofs.HeaderChecks.{header-long}
 use Rattle.packets.proofs.Octets.{Octets, octets-take, octets-drop}
 use Rattle.transactions.specs.Flags.{flagOctetCount}
 use Rattle.transactions.proofs.Tests.{never}

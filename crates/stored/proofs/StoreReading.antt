@@ -15,7 +15,7 @@ use Rattle.addresses.specs.declared.RadioAddress.{RadioAddress}
 use Rattle.polynomials.specs.Bits.{tabulate}
 use Rattle.polynomials.proofs.Runs.{tabulated}
 use Rattle.codes.specs.Order.{every}
-use Rattle.packets.specs.Messages.{blockSize}
+use Rattle.messages.specs.Messages.{blockSize}
 use Rattle.transactions.specs.Flags.{flagOctetCount, flagged}
 use Rattle.transactions.proofs.Order.{every-stops, every-goes}
 use Rattle.receiver.specs.Receiver.{storeSize}

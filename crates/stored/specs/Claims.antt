@@ -5,8 +5,8 @@ use mathlib.Core.Bool.{true}
 use mathlib.Core.List.{List}
 use Prim.Native.Nat.{ℕ, _*_, _<_}
 use lib.ListN.{length, getD, take}
-use Rattle.codes.specs.Checks.{messageGood}
-use Rattle.packets.specs.Messages.{blockSize, mostBlocks}
+use Rattle.checks.specs.Checks.{messageGood}
+use Rattle.messages.specs.Messages.{blockSize, mostBlocks}
 use Rattle.transactions.specs.Flags.{flagOctetCount}
 use Rattle.receiver.specs.Receiver.{storeSize, freshReceiver, held, receiverGood}
 use Rattle.receiver.specs.Events.{blockAt}

@@ -6,8 +6,8 @@ use Prim.Native.Nat.{ℕ, _+_, _*_}
 use lib.Dec.{eqb}
 use lib.ListN.{length, getD, take, drop}
 use Rattle.codes.specs.Order.{firstFailed}
-use Rattle.codes.specs.Checks.{messageGood}
-use Rattle.packets.specs.Messages.{blockSize}
+use Rattle.checks.specs.Checks.{messageGood}
+use Rattle.messages.specs.Messages.{blockSize}
 use Rattle.receiver.specs.declared.state.Receiver.{Receiver}
 use Rattle.stored.specs.Stored.{layoutTests}
 

@@ -8,8 +8,8 @@ use lib.ListN.{length, getD, take, drop, replicate}
 use Rattle.addresses.specs.Octets.{addressAt, threeOctets}
 use Rattle.addresses.specs.declared.RadioAddress.{RadioAddress}
 use Rattle.codes.specs.Order.{firstFailed, every}
-use Rattle.codes.specs.Checks.{headerCheck, headerGood, messageGood}
-use Rattle.packets.specs.Messages.{blockSize}
+use Rattle.checks.specs.Checks.{headerCheck, headerGood, messageGood}
+use Rattle.messages.specs.Messages.{blockSize}
 use Rattle.transactions.specs.Flags.{flagOctetCount, flagged}
 use Rattle.transactions.specs.declared.header.Transaction.{Transaction}
 use Rattle.receiver.specs.Receiver.{storeSize, held, receiverGood}

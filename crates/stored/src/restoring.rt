@@ -14,7 +14,7 @@ use crate::saving::STORE_AT_1;
 use crate::saving::STORED_BLOCK;
 use crate::saving::ZEROS;
 use crate::saving::ZEROS_AT;
-use packets::message::BLOCK;
+use messages::message::BLOCK;
 use receiver::state::Receiver;
 use receiver::state::STORE;
 use transactions::header::Transaction;
@@ -141,7 +141,7 @@ fn is_checked(rx: Receiver, store: [u8; STORE]) -> bool
     }
     let t = rx.transaction;
     let size = BLOCK * (t.blocks as usize);
-    codes::check::message_good(&store[..size])
+    checks::message_good(&store[..size])
 }
 
 // Whether every rule of the layout is kept.
@@ -181,10 +181,10 @@ fn number_of(rx: Receiver, form: &[u8], store: &[u8]) -> u8
     }
     let a = &form[..STORED_BLOCK];
     let b = &form[STORED_BLOCK..];
-    if !codes::check::header_good(0, a) {
+    if !checks::header_good(0, a) {
         return 17;
     }
-    if !codes::check::header_good(0, b) {
+    if !checks::header_good(0, b) {
         return 17;
     }
     let read = receiver_in(a);

@@ -2,15 +2,15 @@
 ghost use mathlib.Core.Path.{_≡_};
 ghost use mathlib.Core.List.{_∷_, []};
 ghost use mathlib.Core.Bool.{cond};
-ghost use Rattle.packets.specs.Messages.{blockSize};
+ghost use Rattle.messages.specs.Messages.{blockSize};
 ghost use Prim.Native.Nat.{_+_, _/_, _%_, _≤_, _<_};
 ghost use lib.ListN.{length, getD, take, drop, replicate};
-ghost use Rattle.codes.specs.Checks.{headerCheck};
+ghost use Rattle.checks.specs.Checks.{headerCheck};
 ghost use Rattle.transactions.specs.Flags.{flagged};
 ghost use Rattle.stored.specs.Stored.{storedBlock, checkedSize, heldOctets, head0, saveNumber, afterSave};
 ghost use Rattle.stored.specs.Claims.{Savable, Restores};
 ghost use Rattle.stored.specs.Parts.{over};
-use packets::message::BLOCK;
+use messages::message::BLOCK;
 use receiver::state::Receiver;
 use receiver::state::STORE;
 
@@ -89,7 +89,7 @@ fn check_at(to: &mut [u8], at: usize)
         (headerCheck 0 (take checkedSize (drop at (now (to .entry)))) / 256 ∷ headerCheck 0 (take checkedSize (drop at (now (to .entry)))) % 256 ∷ []) ⌝ }
 {
     let end = at + CHECKED;
-    let check = codes::check::header(0, &to[at..end]);
+    let check = checks::header(0, &to[at..end]);
     let octets = [(check / 256) as u8, (check % 256) as u8];
     copy_at(to, end, &octets);
 }

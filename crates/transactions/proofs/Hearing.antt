@@ -13,7 +13,7 @@ use borrow.Author.Tests.{eq-eqb, ne-eqb, le-leb, lt-leb}
 use Rattle.addresses.specs.declared.RadioAddress.{RadioAddress}
 use Rattle.codes.specs.Order.{firstFailed}
 use Rattle.packets.specs.Headers.{part, formatOf, commonOf, headerOf, knownFormat, headerTests, readHeader, headerNumber}
-use Rattle.packets.specs.Messages.{blockSize, checkSize, mostBlocks}
+use Rattle.messages.specs.Messages.{blockSize, checkSize, mostBlocks}
 use Rattle.packets.specs.declared.header.Common.{Common}
 use Rattle.packets.specs.declared.header.Header.{Header}
 use Rattle.packets.specs.declared.header.Header.the-variants.{Response, Unconfirmed, Confirmed}

@@ -6,7 +6,7 @@ use Prim.Native.Nat.{ℕ}
 use native.Mathlib.Omega.{arith}
 use lib.ListN.{length}
 use borrow.Author.Needs.{needs}
-use Rattle.bursts.specs.declared.datagram.Datagram.{Datagram}
+use Rattle.datagrams.specs.declared.Datagram.{Datagram}
 use Rattle.capi.specs.Layouts.{labelOctets, datagramOctets}
 use Rattle.capi.specs.Answers.{datagramRead}
 use Rattle.capi.proofs.Giving.{gives-as}

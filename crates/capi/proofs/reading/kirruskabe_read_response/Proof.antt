@@ -7,7 +7,7 @@ use native.Mathlib.Omega.{arith}
 use lib.ListN.{length, getD}
 use borrow.Author.Needs.{needs}
 use Rattle.addresses.specs.Octets.{threeOctets}
-use Rattle.packets.specs.declared.response.ResponseAnswer.{ResponseAnswer}
+use Rattle.messages.specs.declared.response.ResponseAnswer.{ResponseAnswer}
 use Rattle.capi.specs.Layouts.{responseOctets}
 use Rattle.capi.specs.Answers.{Answer, responseRead}
 use Rattle.capi.proofs.Giving.{gives-as}

@@ -3,7 +3,7 @@
 use mathlib.Core.Path.{_≡_, ap, _∙_}
 use lib.ListN.{length}
 use borrow.Author.Needs.{needs}
-use Rattle.packets.specs.Messages.{fullHeader}
+use Rattle.messages.specs.Messages.{fullHeader}
 use Rattle.packets.specs.declared.header.HeaderOctets.{HeaderOctets}
 use Rattle.capi.specs.Answers.{headerBefore}
 use Rattle.capi.proofs.Giving.{gives-as}

@@ -2,7 +2,7 @@
 -- Assumes nothing.
 use mathlib.Core.Path.{refl, ap}
 use borrow.Author.Needs.{needs}
-use Rattle.packets.specs.declared.message.Size.{Size}
+use Rattle.messages.specs.declared.message.Size.{Size}
 use Rattle.capi.specs.Layouts.{sizeOctets}
 use Rattle.capi.specs.Answers.{messageSize}
 use Rattle.capi.proofs.Giving.{gives-as}

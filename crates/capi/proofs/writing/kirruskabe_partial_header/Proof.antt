@@ -3,9 +3,9 @@
 use mathlib.Core.Path.{_≡_, ap, _∙_}
 use lib.ListN.{length}
 use borrow.Author.Needs.{needs}
-use Rattle.packets.specs.Messages.{partialHeader}
+use Rattle.messages.specs.Messages.{partialHeader}
 use Rattle.packets.specs.declared.header.HeaderOctets.{HeaderOctets}
-use Rattle.packets.specs.declared.message.Delivery.{Delivery}
+use Rattle.messages.specs.declared.message.Delivery.{Delivery}
 use Rattle.capi.specs.Answers.{headerAgain}
 use Rattle.capi.proofs.Giving.{gives-as}
 use Rattle.capi.proofs.writing.kirruskabe_partial_header.Statement.{statement}

@@ -9,8 +9,8 @@ use lib.Dec.{eqb, leb}
 use lib.ListN.{length}
 use borrow.Author.Tests.{ne-eqb}
 use borrow.Author.Needs.{needs}
-use Rattle.bursts.specs.Datagrams.{writeDatagram}
-use Rattle.bursts.specs.declared.datagram.DatagramOctets.{DatagramOctets}
+use Rattle.datagrams.specs.Datagrams.{writeDatagram}
+use Rattle.datagrams.specs.declared.DatagramOctets.{DatagramOctets}
 use Rattle.capi.specs.Layouts.{syncOf, labelsFrom}
 use Rattle.capi.specs.Answers.{behind, datagramWritten}
 use Rattle.capi.proofs.Giving.{gives-as, refused-with-1, taken, not-taken, behind-failed, given-short, past-size, past-both}

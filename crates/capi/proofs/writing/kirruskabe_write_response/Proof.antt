@@ -8,8 +8,8 @@ use native.Mathlib.Omega.{arith}
 use lib.Dec.{eqb, leb}
 use lib.ListN.{length}
 use borrow.Author.Needs.{needs}
-use Rattle.packets.specs.Responses.{writeResponse}
-use Rattle.packets.specs.declared.response.ResponseOctets.{ResponseOctets}
+use Rattle.messages.specs.Responses.{writeResponse}
+use Rattle.messages.specs.declared.response.ResponseOctets.{ResponseOctets}
 use Rattle.capi.specs.Layouts.{replyOf, deliveryOf}
 use Rattle.capi.specs.Answers.{behind, responseWritten}
 use Rattle.capi.proofs.Giving.{gives-as, taken, not-taken, given-short, past-both}

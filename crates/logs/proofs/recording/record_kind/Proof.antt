@@ -4,7 +4,7 @@ use mathlib.Core.Path.{_≡_, refl, ap, _∙_}
 use mathlib.Core.Logic.{⊎-elim, _≢_}
 use Prim.Native.Nat.{_+_}
 use lib.ListN.{length}
-use Rattle.packets.specs.declared.response.ResponseOctets.{ResponseOctets}
+use Rattle.messages.specs.declared.response.ResponseOctets.{ResponseOctets}
 use Rattle.transactions.specs.Answers.{responseSaid}
 use Rattle.receiver.specs.Receiver.{storeSize}
 use Rattle.history.specs.Run.{afterEvent, answerTo}

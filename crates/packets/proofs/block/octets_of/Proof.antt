@@ -3,7 +3,7 @@
 use Prim.Native.Nat.{_+_, _-_, _≤_}
 use native.Mathlib.Omega.{arith}
 use borrow.Author.Needs.{needs}
-use Rattle.codes.proofs.BlockChecks.{blockCheck-lt}
+use Rattle.checks.proofs.BlockChecks.{blockCheck-lt}
 use Rattle.packets.proofs.BlockWriting.{Begun, front, more, whole}
 use Rattle.packets.proofs.block.octets_of.Statement.{statement}
 use Rattle.packets.proofs.block.octets_of.Tie as tie

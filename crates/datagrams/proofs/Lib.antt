@@ -1,0 +1,5 @@
+pub mod DatagramNumbers
+pub mod DatagramWriting
+pub mod DatagramBack
+pub mod DatagramRows
+pub mod DatagramClaims

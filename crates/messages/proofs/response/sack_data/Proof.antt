@@ -1,0 +1,72 @@
+-- `messages::response::sack_data` meets its contract.
+-- Assumes nothing.
+use native.Mathlib.Omega.{arith}
+use borrow.Author.Needs.{needs}
+use Rattle.messages.proofs.ResponseParts.{data-is}
+use Rattle.messages.proofs.response.sack_data.Statement.{statement}
+use Rattle.messages.proofs.response.sack_data.Tie as tie
+
+slice-aggregate-message-octets : tie.Need-slice-aggregate-message-octets
+slice-aggregate-message-octets c = search needs
+
+message-octets-requires : tie.Need-message-octets-requires
+message-octets-requires c κs = search needs
+
+array-read-t9 : tie.Need-array-read-t9
+array-read-t9 c = search needs
+
+array-read-t12 : tie.Need-array-read-t12
+array-read-t12 c = search needs
+
+array-read-t15 : tie.Need-array-read-t15
+array-read-t15 c = search needs
+
+array-read-t18 : tie.Need-array-read-t18
+array-read-t18 c = search needs
+
+array-read-t21 : tie.Need-array-read-t21
+array-read-t21 c = search needs
+
+array-read-t24 : tie.Need-array-read-t24
+array-read-t24 c = search needs
+
+array-read-t27 : tie.Need-array-read-t27
+array-read-t27 c = search needs
+
+array-read-t30 : tie.Need-array-read-t30
+array-read-t30 c = search needs
+
+array-read-t33 : tie.Need-array-read-t33
+array-read-t33 c = search needs
+
+array-read-t36 : tie.Need-array-read-t36
+array-read-t36 c = search needs
+
+array-read-t39 : tie.Need-array-read-t39
+array-read-t39 c = search needs
+
+array-read-t42 : tie.Need-array-read-t42
+array-read-t42 c = search needs
+
+returns : tie.Need-returns
+returns c = data-is (c .before .before .args .t1) _ (omega arith) (c .message-octets .ensures)
+
+pub sack-data-spec : {M : Type 1} → statement M
+sack-data-spec =
+    tie.close
+    (tie.spec
+    slice-aggregate-message-octets
+    message-octets-requires
+    array-read-t9
+    array-read-t12
+    array-read-t15
+    array-read-t18
+    array-read-t21
+    array-read-t24
+    array-read-t27
+    array-read-t30
+    array-read-t33
+    array-read-t36
+    array-read-t39
+    array-read-t42
+    returns)
