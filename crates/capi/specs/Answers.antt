@@ -16,10 +16,8 @@ use Rattle.messages.specs.Messages.{sizeOf, writeMessageBlock, fullHeader, part
 use Rattle.messages.specs.Responses.{readResponse, writeResponse}
 use Rattle.packets.specs.declared.header.HeaderAnswer.{HeaderAnswer}
 use Rattle.packets.specs.declared.header.HeaderAnswer.the-variants.{Accepted, Refused}
-use Rattle.capi.specs.Layouts.{syncOf, replyOf, deliveryOf, headerFrom, labelsFrom, sizeOctets, headerOctets, blockOctets, responseOctets, burstOctets, datagramOctets}
-
-abbrev pub Answer : Type 0
-Answer = ℕ × List ℕ
+use Rattle.layouts.specs.Lent.{Answer}
+use Rattle.layouts.specs.Layouts.{syncOf, replyOf, deliveryOf, headerFrom, labelsFrom, sizeOctets, headerOctets, blockOctets, responseOctets, burstOctets, datagramOctets}
 
 -- an answer whose number stands behind other tests
 unfoldable pub behind : List (Bool × ℕ) → ℕ → ℕ

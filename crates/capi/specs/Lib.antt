@@ -1,4 +1,2 @@
-pub mod Lent
-pub mod Layouts
 pub mod Answers
 pub mod Events

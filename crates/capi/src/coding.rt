@@ -2,10 +2,10 @@
 ghost use mathlib.Core.Path.{_≡_};
 ghost use Rattle.checks.specs.Checks.{headerCheck, blockCheck, messageCheck};
 ghost use Rattle.codes.specs.SlotWord.{slotWord};
-ghost use Rattle.capi.specs.Lent.{Gives};
+ghost use Rattle.layouts.specs.Lent.{Gives};
 ghost use Rattle.capi.specs.Answers.{slotRead, fieldWritten, fieldRead};
-use crate::lent::give;
 use codes::slot_type::SlotType;
+use layouts::lent::give;
 
 // The 20 bits of a slot type.
 #[no_mangle]

@@ -4,16 +4,12 @@ ghost use mathlib.Core.Bool.{cond};
 ghost use lib.Dec.{leb};
 ghost use lib.ListN.{length};
 ghost use Rattle.datagrams.specs.Datagrams.{nextSequence};
-ghost use Rattle.capi.specs.Lent.{Gives};
-ghost use Rattle.capi.specs.Layouts.{syncOf, replyOf, deliveryOf, commonFrom, headerFrom, labelsFrom};
+ghost use Rattle.layouts.specs.Lent.{Gives};
+ghost use Rattle.layouts.specs.Layouts.{commonFrom, headerFrom, labelsFrom};
 ghost use Rattle.capi.specs.Answers.{messageSize, headerBefore, headerAgain, messageBlock, fieldsWritten, blockWritten, responseWritten, burstWritten, datagramWritten};
-use crate::lent::give;
-use crate::lent::give_both;
-use addresses::RadioAddress;
-use bursts::burst::Sync;
 use datagrams::Labels;
-use messages::message::Delivery;
-use messages::response::Reply;
+use layouts::lent::give;
+use layouts::lent::give_both;
 use packets::header::Common;
 use packets::header::HeaderAnswer;
 
@@ -29,17 +25,6 @@ pub extern "C" fn kirruskabe_message_size(octets: usize, out: &mut [u8]) -> u8
     give(out, size.number, &both)
 }
 
-fn delivery(sap: u8, ns: u8, destination: u32, source: u32) -> Delivery
-    ensures { λ r. ⌜ r ≡ deliveryOf sap ns destination source ⌝ }
-{
-    Delivery {
-        sap,
-        ns,
-        destination: RadioAddress(destination),
-        source: RadioAddress(source),
-    }
-}
-
 // The header before a whole message.
 #[no_mangle]
 pub extern "C" fn kirruskabe_full_header(
@@ -52,7 +37,10 @@ pub extern "C" fn kirruskabe_full_header(
 ) -> u8
     ensures { λ r. ⌜ Gives 12 (headerBefore octets sap ns destination source) (now (out .entry)) r (now (out .exit)) ⌝ }
 {
-    let w = messages::message::full_header(octets, delivery(sap, ns, destination, source));
+    let w = messages::message::full_header(
+        octets,
+        layouts::fields::delivery(sap, ns, destination, source),
+    );
     give(out, w.number, &w.octets)
 }
 
@@ -71,7 +59,7 @@ pub extern "C" fn kirruskabe_partial_header(
 {
     let w = messages::message::partial_header(
         octets,
-        delivery(sap, ns, destination, source),
+        layouts::fields::delivery(sap, ns, destination, source),
         count,
     );
     give(out, w.number, &w.octets)
@@ -148,16 +136,6 @@ fn at_most(most: u8, value: u8, number: u8) -> u8
     if value <= most { number } else { 16 }
 }
 
-fn reply_of(reply: u8) -> Reply
-    ensures { λ r. ⌜ r ≡ replyOf reply ⌝ }
-{
-    match reply {
-        0 => Reply::Ack,
-        1 => Reply::Nack,
-        _ => Reply::Sack,
-    }
-}
-
 // A response; the flags are those of a SACK.
 #[no_mangle]
 pub extern "C" fn kirruskabe_write_response(
@@ -176,22 +154,17 @@ pub extern "C" fn kirruskabe_write_response(
     if got != 0 {
         return 1;
     }
-    let w = messages::response::write(reply_of(reply), delivery(sap, ns, destination, source), os);
+    let w = messages::response::write(
+        layouts::fields::reply_of(reply),
+        layouts::fields::delivery(sap, ns, destination, source),
+        os,
+    );
     let header = w.header;
     let block = w.block;
     give_both(out, at_most(2, reply, w.number), &header, &block)
 }
 
 // ---- bursts and datagrams
-
-fn sync_of(sync: u8) -> Sync
-    ensures { λ r. ⌜ r ≡ syncOf sync ⌝ }
-{
-    match sync {
-        0 => Sync::Base,
-        _ => Sync::Mobile,
-    }
-}
 
 // A burst.
 #[no_mangle]
@@ -209,7 +182,7 @@ pub extern "C" fn kirruskabe_write_burst(
     if got != 0 {
         return 1;
     }
-    let w = bursts::burst::write(colour, datatype, os, sync_of(sync));
+    let w = bursts::burst::write(colour, datatype, os, layouts::fields::sync_of(sync));
     give(out, at_most(1, sync, w.number), &w.octets)
 }
 
@@ -248,7 +221,13 @@ pub extern "C" fn kirruskabe_write_datagram(
     if got != 0 {
         return 1;
     }
-    let w = datagrams::write(labels_from(labels), colour, datatype, os, sync_of(sync));
+    let w = datagrams::write(
+        labels_from(labels),
+        colour,
+        datatype,
+        os,
+        layouts::fields::sync_of(sync),
+    );
     give(out, at_most(1, sync, w.number), &w.octets)
 }
 

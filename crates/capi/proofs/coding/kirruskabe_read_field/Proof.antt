@@ -5,7 +5,7 @@ use lib.ListN.{length}
 use borrow.Author.Needs.{needs}
 use Rattle.codes.specs.declared.block_field.BlockField.{BlockField}
 use Rattle.capi.specs.Answers.{fieldRead}
-use Rattle.capi.proofs.Giving.{gives-as}
+use Rattle.layouts.proofs.Giving.{gives-as}
 use Rattle.capi.proofs.coding.kirruskabe_read_field.Statement.{statement}
 use Rattle.capi.proofs.coding.kirruskabe_read_field.Tie as tie
 

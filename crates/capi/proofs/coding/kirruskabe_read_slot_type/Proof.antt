@@ -6,8 +6,9 @@ use borrow.Author.Needs.{needs}
 use Rattle.codes.specs.SlotWord.{slotNumber}
 use Rattle.codes.specs.declared.slot_type.SlotType.{SlotType}
 use Rattle.bursts.specs.Bursts.{slotData}
-use Rattle.capi.specs.Answers.{Answer, slotRead}
-use Rattle.capi.proofs.Giving.{gives-as}
+use Rattle.layouts.specs.Lent.{Answer}
+use Rattle.capi.specs.Answers.{slotRead}
+use Rattle.layouts.proofs.Giving.{gives-as}
 use Rattle.capi.proofs.coding.kirruskabe_read_slot_type.Statement.{statement}
 use Rattle.capi.proofs.coding.kirruskabe_read_slot_type.Tie as tie
 

@@ -7,7 +7,8 @@ use lib.ListN.{length}
 use borrow.Author.Needs.{needs}
 use Rattle.codes.specs.Field.{writtenField}
 use Rattle.capi.specs.Answers.{fieldWritten}
-use Rattle.capi.proofs.Giving.{gives-as, taken, not-taken, behind-none, given-short, past-size}
+use Rattle.layouts.proofs.Giving.{gives-as, taken, not-taken}
+use Rattle.capi.proofs.Behind.{behind-none, given-short, past-size}
 use Rattle.capi.proofs.coding.kirruskabe_write_field.Statement.{statement}
 use Rattle.capi.proofs.coding.kirruskabe_write_field.Tie as tie
 

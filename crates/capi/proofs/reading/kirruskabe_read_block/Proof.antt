@@ -5,9 +5,9 @@ use native.Mathlib.Omega.{arith}
 use lib.ListN.{length}
 use borrow.Author.Needs.{needs}
 use Rattle.packets.specs.declared.block.Block.{Block}
-use Rattle.capi.specs.Layouts.{blockOctets}
+use Rattle.layouts.specs.Layouts.{blockOctets}
 use Rattle.capi.specs.Answers.{blockRead}
-use Rattle.capi.proofs.Giving.{gives-as}
+use Rattle.layouts.proofs.Giving.{gives-as}
 use Rattle.capi.proofs.reading.kirruskabe_read_block.Statement.{statement}
 use Rattle.capi.proofs.reading.kirruskabe_read_block.Tie as tie
 

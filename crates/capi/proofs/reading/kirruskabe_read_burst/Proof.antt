@@ -5,9 +5,9 @@ use native.Mathlib.Omega.{arith}
 use lib.ListN.{length}
 use borrow.Author.Needs.{needs}
 use Rattle.bursts.specs.declared.burst.Burst.{Burst}
-use Rattle.capi.specs.Layouts.{burstOctets}
+use Rattle.layouts.specs.Layouts.{burstOctets}
 use Rattle.capi.specs.Answers.{burstRead}
-use Rattle.capi.proofs.Giving.{gives-as}
+use Rattle.layouts.proofs.Giving.{gives-as}
 use Rattle.capi.proofs.reading.kirruskabe_read_burst.Statement.{statement}
 use Rattle.capi.proofs.reading.kirruskabe_read_burst.Tie as tie
 

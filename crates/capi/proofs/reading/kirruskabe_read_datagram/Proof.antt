@@ -7,9 +7,9 @@ use native.Mathlib.Omega.{arith}
 use lib.ListN.{length}
 use borrow.Author.Needs.{needs}
 use Rattle.datagrams.specs.declared.Datagram.{Datagram}
-use Rattle.capi.specs.Layouts.{labelOctets, datagramOctets}
+use Rattle.layouts.specs.Layouts.{labelOctets, datagramOctets}
 use Rattle.capi.specs.Answers.{datagramRead}
-use Rattle.capi.proofs.Giving.{gives-as}
+use Rattle.layouts.proofs.Giving.{gives-as}
 use Rattle.capi.proofs.reading.kirruskabe_read_datagram.Statement.{statement}
 use Rattle.capi.proofs.reading.kirruskabe_read_datagram.Tie as tie
 

@@ -6,7 +6,7 @@ use Prim.Native.Nat.{ℕ}
 use lib.ListN.{length}
 use borrow.Author.Needs.{needs}
 use Rattle.capi.specs.Answers.{headerFound, headerRead}
-use Rattle.capi.proofs.Giving.{gives-as}
+use Rattle.layouts.proofs.Giving.{gives-as}
 use Rattle.capi.proofs.reading.kirruskabe_read_header.Statement.{statement}
 use Rattle.capi.proofs.reading.kirruskabe_read_header.Tie as tie
 

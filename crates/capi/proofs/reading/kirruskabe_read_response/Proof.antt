@@ -8,9 +8,10 @@ use lib.ListN.{length, getD}
 use borrow.Author.Needs.{needs}
 use Rattle.addresses.specs.Octets.{threeOctets}
 use Rattle.messages.specs.declared.response.ResponseAnswer.{ResponseAnswer}
-use Rattle.capi.specs.Layouts.{responseOctets}
-use Rattle.capi.specs.Answers.{Answer, responseRead}
-use Rattle.capi.proofs.Giving.{gives-as}
+use Rattle.layouts.specs.Layouts.{responseOctets}
+use Rattle.layouts.specs.Lent.{Answer}
+use Rattle.capi.specs.Answers.{responseRead}
+use Rattle.layouts.proofs.Giving.{gives-as}
 use Rattle.capi.proofs.reading.kirruskabe_read_response.Statement.{statement}
 use Rattle.capi.proofs.reading.kirruskabe_read_response.Tie as tie
 

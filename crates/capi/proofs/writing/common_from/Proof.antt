@@ -3,7 +3,7 @@
 use mathlib.Core.Path.{_≡_}
 use borrow.Author.Needs.{needs}
 use Rattle.addresses.specs.Octets.{addressAt}
-use Rattle.capi.specs.Layouts.{commonFrom}
+use Rattle.layouts.specs.Layouts.{commonFrom}
 use Rattle.capi.proofs.writing.common_from.Statement.{statement}
 use Rattle.capi.proofs.writing.common_from.Tie as tie
 

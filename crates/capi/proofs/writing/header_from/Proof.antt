@@ -2,7 +2,7 @@
 -- Assumes nothing.
 use mathlib.Core.Path.{_∙_}
 use borrow.Author.Needs.{needs}
-use Rattle.capi.specs.Layouts.{headerFrom}
+use Rattle.layouts.specs.Layouts.{headerFrom}
 use Rattle.capi.proofs.writing.header_from.Statement.{statement}
 use Rattle.capi.proofs.writing.header_from.Tie as tie
 

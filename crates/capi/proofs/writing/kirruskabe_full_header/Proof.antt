@@ -6,7 +6,7 @@ use borrow.Author.Needs.{needs}
 use Rattle.messages.specs.Messages.{fullHeader}
 use Rattle.packets.specs.declared.header.HeaderOctets.{HeaderOctets}
 use Rattle.capi.specs.Answers.{headerBefore}
-use Rattle.capi.proofs.Giving.{gives-as}
+use Rattle.layouts.proofs.Giving.{gives-as}
 use Rattle.capi.proofs.writing.kirruskabe_full_header.Statement.{statement}
 use Rattle.capi.proofs.writing.kirruskabe_full_header.Tie as tie
 

@@ -3,9 +3,9 @@
 use mathlib.Core.Path.{refl, ap}
 use borrow.Author.Needs.{needs}
 use Rattle.messages.specs.declared.message.Size.{Size}
-use Rattle.capi.specs.Layouts.{sizeOctets}
+use Rattle.layouts.specs.Layouts.{sizeOctets}
 use Rattle.capi.specs.Answers.{messageSize}
-use Rattle.capi.proofs.Giving.{gives-as}
+use Rattle.layouts.proofs.Giving.{gives-as}
 use Rattle.capi.proofs.writing.kirruskabe_message_size.Statement.{statement}
 use Rattle.capi.proofs.writing.kirruskabe_message_size.Tie as tie
 

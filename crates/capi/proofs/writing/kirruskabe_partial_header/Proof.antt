@@ -7,7 +7,7 @@ use Rattle.messages.specs.Messages.{partialHeader}
 use Rattle.packets.specs.declared.header.HeaderOctets.{HeaderOctets}
 use Rattle.messages.specs.declared.message.Delivery.{Delivery}
 use Rattle.capi.specs.Answers.{headerAgain}
-use Rattle.capi.proofs.Giving.{gives-as}
+use Rattle.layouts.proofs.Giving.{gives-as}
 use Rattle.capi.proofs.writing.kirruskabe_partial_header.Statement.{statement}
 use Rattle.capi.proofs.writing.kirruskabe_partial_header.Tie as tie
 

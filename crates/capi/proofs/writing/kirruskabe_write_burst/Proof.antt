@@ -9,9 +9,10 @@ use borrow.Author.Needs.{needs}
 use Rattle.bursts.specs.Bursts.{writeBurst}
 use Rattle.bursts.specs.declared.burst.BurstOctets.{BurstOctets}
 use Rattle.bursts.specs.declared.burst.Sync.{Sync}
-use Rattle.capi.specs.Layouts.{syncOf}
+use Rattle.layouts.specs.Layouts.{syncOf}
 use Rattle.capi.specs.Answers.{behind, burstWritten}
-use Rattle.capi.proofs.Giving.{gives-as, taken, not-taken, given-short, past-both}
+use Rattle.layouts.proofs.Giving.{gives-as, taken, not-taken}
+use Rattle.capi.proofs.Behind.{given-short, past-both}
 use Rattle.capi.proofs.writing.kirruskabe_write_burst.Statement.{statement}
 use Rattle.capi.proofs.writing.kirruskabe_write_burst.Tie as tie
 

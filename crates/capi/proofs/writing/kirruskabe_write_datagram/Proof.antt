@@ -11,9 +11,10 @@ use borrow.Author.Tests.{ne-eqb}
 use borrow.Author.Needs.{needs}
 use Rattle.datagrams.specs.Datagrams.{writeDatagram}
 use Rattle.datagrams.specs.declared.DatagramOctets.{DatagramOctets}
-use Rattle.capi.specs.Layouts.{syncOf, labelsFrom}
+use Rattle.layouts.specs.Layouts.{syncOf, labelsFrom}
 use Rattle.capi.specs.Answers.{behind, datagramWritten}
-use Rattle.capi.proofs.Giving.{gives-as, refused-with-1, taken, not-taken, behind-failed, given-short, past-size, past-both}
+use Rattle.layouts.proofs.Giving.{gives-as, refused-with-1, taken, not-taken}
+use Rattle.capi.proofs.Behind.{behind-failed, given-short, past-size, past-both}
 use Rattle.capi.proofs.writing.kirruskabe_write_datagram.Statement.{statement}
 use Rattle.capi.proofs.writing.kirruskabe_write_datagram.Tie as tie
 

@@ -9,9 +9,10 @@ use borrow.Author.Needs.{needs}
 use Rattle.packets.specs.declared.header.HeaderOctets.{HeaderOctets}
 use Rattle.packets.specs.declared.header.HeaderAnswer.{HeaderAnswer}
 use Rattle.packets.specs.declared.header.HeaderAnswer.the-variants.{Accepted, Refused}
-use Rattle.capi.specs.Layouts.{headerFrom}
+use Rattle.layouts.specs.Layouts.{headerFrom}
 use Rattle.capi.specs.Answers.{headerWritten, fieldsWritten}
-use Rattle.capi.proofs.Giving.{gives-as, behind-none, given-short, past-size}
+use Rattle.layouts.proofs.Giving.{gives-as}
+use Rattle.capi.proofs.Behind.{behind-none, given-short, past-size}
 use Rattle.capi.proofs.writing.kirruskabe_write_header.Statement.{statement}
 use Rattle.capi.proofs.writing.kirruskabe_write_header.Tie as tie
 

@@ -10,9 +10,10 @@ use lib.ListN.{length}
 use borrow.Author.Needs.{needs}
 use Rattle.messages.specs.Responses.{writeResponse}
 use Rattle.messages.specs.declared.response.ResponseOctets.{ResponseOctets}
-use Rattle.capi.specs.Layouts.{replyOf, deliveryOf}
+use Rattle.layouts.specs.Layouts.{replyOf, deliveryOf}
 use Rattle.capi.specs.Answers.{behind, responseWritten}
-use Rattle.capi.proofs.Giving.{gives-as, taken, not-taken, given-short, past-both}
+use Rattle.layouts.proofs.Giving.{gives-as, taken, not-taken}
+use Rattle.capi.proofs.Behind.{given-short, past-both}
 use Rattle.capi.proofs.writing.kirruskabe_write_response.Statement.{statement}
 use Rattle.capi.proofs.writing.kirruskabe_write_response.Tie as tie
 

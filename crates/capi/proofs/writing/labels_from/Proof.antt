@@ -3,7 +3,7 @@
 use mathlib.Core.Path.{_≡_}
 use borrow.Author.Needs.{needs}
 use Rattle.addresses.specs.Octets.{addressAt, numberAt}
-use Rattle.capi.specs.Layouts.{labelsFrom}
+use Rattle.layouts.specs.Layouts.{labelsFrom}
 use Rattle.capi.proofs.writing.labels_from.Statement.{statement}
 use Rattle.capi.proofs.writing.labels_from.Tie as tie
 

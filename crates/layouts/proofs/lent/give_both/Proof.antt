@@ -1,11 +1,11 @@
--- `capi::lent::give_both` meets its contract.
+-- `layouts::lent::give_both` meets its contract.
 -- Assumes nothing.
 use mathlib.Core.List.{_++_}
 use native.Mathlib.Omega.{arith}
 use borrow.Author.Needs.{needs}
-use Rattle.capi.proofs.Giving.{another-size, refused, given-back}
-use Rattle.capi.proofs.lent.give_both.Statement.{statement}
-use Rattle.capi.proofs.lent.give_both.Tie as tie
+use Rattle.layouts.proofs.Giving.{another-size, refused, given-back}
+use Rattle.layouts.proofs.lent.give_both.Statement.{statement}
+use Rattle.layouts.proofs.lent.give_both.Tie as tie
 
 returns : tie.Need-returns
 returns c =

@@ -1,4 +1,4 @@
--- `capi::lent::octet_at` meets its contract.
+-- `layouts::lent::octet_at` meets its contract.
 -- Assumes nothing.
 use mathlib.Core.Path.{_≡_, sym, ap, _∙_}
 use mathlib.Core.List.{_++_}
@@ -7,8 +7,8 @@ use native.Mathlib.Omega.{arith}
 use lib.ListN.{length, getD, List·getD-append}
 use lib.Seq.{getD-append-add}
 use borrow.Author.Needs.{needs}
-use Rattle.capi.proofs.lent.octet_at.Statement.{statement}
-use Rattle.capi.proofs.lent.octet_at.Tie as tie
+use Rattle.layouts.proofs.lent.octet_at.Statement.{statement}
+use Rattle.layouts.proofs.lent.octet_at.Tie as tie
 
 shared-slice-read-result : tie.Need-shared-slice-read-result
 shared-slice-read-result c = search needs

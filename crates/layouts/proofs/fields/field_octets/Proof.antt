@@ -1,9 +1,9 @@
--- `capi::reading::field_octets` meets its contract.
+-- `layouts::fields::field_octets` meets its contract.
 -- Assumes nothing.
 use borrow.Author.Needs.{needs}
-use Rattle.capi.specs.Layouts.{fieldOctets}
-use Rattle.capi.proofs.reading.field_octets.Statement.{statement}
-use Rattle.capi.proofs.reading.field_octets.Tie as tie
+use Rattle.layouts.specs.Layouts.{fieldOctets}
+use Rattle.layouts.proofs.fields.field_octets.Statement.{statement}
+use Rattle.layouts.proofs.fields.field_octets.Tie as tie
 
 radio-octets-requires : tie.Need-radio-octets-requires
 radio-octets-requires c κs = search needs

@@ -1,9 +1,9 @@
--- `capi::reading::label_octets` meets its contract.
+-- `layouts::fields::label_octets` meets its contract.
 -- Assumes nothing.
 use borrow.Author.Needs.{needs}
-use Rattle.capi.specs.Layouts.{labelOctets}
-use Rattle.capi.proofs.reading.label_octets.Statement.{statement}
-use Rattle.capi.proofs.reading.label_octets.Tie as tie
+use Rattle.layouts.specs.Layouts.{labelOctets}
+use Rattle.layouts.proofs.fields.label_octets.Statement.{statement}
+use Rattle.layouts.proofs.fields.label_octets.Tie as tie
 
 radio-octets-requires : tie.Need-radio-octets-requires
 radio-octets-requires c κs = search needs

@@ -1,13 +1,13 @@
--- `capi::lent::give` meets its contract.
+-- `layouts::lent::give` meets its contract.
 -- Assumes nothing.
 use mathlib.Core.Path.{ap}
 use mathlib.Core.List.{List, append-nil}
 use Prim.Native.Nat.{ℕ}
 use native.Mathlib.Omega.{arith}
 use borrow.Author.Needs.{needs}
-use Rattle.capi.proofs.Giving.{gives-as}
-use Rattle.capi.proofs.lent.give.Statement.{statement}
-use Rattle.capi.proofs.lent.give.Tie as tie
+use Rattle.layouts.proofs.Giving.{gives-as}
+use Rattle.layouts.proofs.lent.give.Statement.{statement}
+use Rattle.layouts.proofs.lent.give.Tie as tie
 
 slice-aggregate-give-both : tie.Need-slice-aggregate-give-both
 slice-aggregate-give-both c = search needs

@@ -1,4 +1,4 @@
--- `capi::lent::copy` meets its contract. The loop's invariant: the first i octets are those of the parts.
+-- `layouts::lent::copy` meets its contract. The loop's invariant: the first i octets are those of the parts.
 -- Assumes nothing.
 use mathlib.Core.Path.{_≡_, refl, _∙_}
 use mathlib.Core.List.{_++_}
@@ -7,8 +7,8 @@ use native.Mathlib.Omega.{arith}
 use lib.ListN.{length, getD, length-append, length-set}
 use lib.Seq.{getD-set-same, getD-set-other, ext-getD}
 use borrow.Author.Count.{below-none, below-more}
-use Rattle.capi.proofs.lent.copy.Statement.{statement}
-use Rattle.capi.proofs.lent.copy.Tie as tie
+use Rattle.layouts.proofs.lent.copy.Statement.{statement}
+use Rattle.layouts.proofs.lent.copy.Tie as tie
 
 abbrev Inv-loop : tie.InvT-loop
 Inv-loop out₀ head tail i₀ out i =

@@ -1,9 +1,9 @@
--- `capi::writing::sync_of` meets its contract.
+-- `layouts::fields::sync_of` meets its contract.
 -- Assumes nothing.
 use borrow.Author.Tests.{eq-eqb, ne-eqb}
-use Rattle.capi.specs.Layouts.{syncOf}
-use Rattle.capi.proofs.writing.sync_of.Statement.{statement}
-use Rattle.capi.proofs.writing.sync_of.Tie as tie
+use Rattle.layouts.specs.Layouts.{syncOf}
+use Rattle.layouts.proofs.fields.sync_of.Statement.{statement}
+use Rattle.layouts.proofs.fields.sync_of.Tie as tie
 
 returns : tie.Need-returns
 unfolding syncOf

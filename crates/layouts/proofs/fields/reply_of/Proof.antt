@@ -1,10 +1,10 @@
--- `capi::writing::reply_of` meets its contract.
+-- `layouts::fields::reply_of` meets its contract.
 -- Assumes nothing.
 use native.Mathlib.Omega.{arith}
 use borrow.Author.Tests.{eq-eqb, ne-eqb}
-use Rattle.capi.specs.Layouts.{replyOf}
-use Rattle.capi.proofs.writing.reply_of.Statement.{statement}
-use Rattle.capi.proofs.writing.reply_of.Tie as tie
+use Rattle.layouts.specs.Layouts.{replyOf}
+use Rattle.layouts.proofs.fields.reply_of.Statement.{statement}
+use Rattle.layouts.proofs.fields.reply_of.Tie as tie
 
 returns : tie.Need-returns
 unfolding replyOf

@@ -1,10 +1,10 @@
--- `capi::reading::header_octets` meets its contract.
+-- `layouts::fields::header_octets` meets its contract.
 -- Assumes nothing.
 use mathlib.Core.Path.{sym, ap, _∙_}
 use borrow.Author.Needs.{needs}
-use Rattle.capi.specs.Layouts.{headerOctets}
-use Rattle.capi.proofs.reading.header_octets.Statement.{statement}
-use Rattle.capi.proofs.reading.header_octets.Tie as tie
+use Rattle.layouts.specs.Layouts.{headerOctets}
+use Rattle.layouts.proofs.fields.header_octets.Statement.{statement}
+use Rattle.layouts.proofs.fields.header_octets.Tie as tie
 
 enum-known-h : tie.Need-enum-known-h
 enum-known-h c = search needs

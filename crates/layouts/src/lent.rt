@@ -3,7 +3,7 @@ ghost use mathlib.Core.Path.{_≡_};
 ghost use mathlib.Core.List.{_++_};
 ghost use Prim.Native.Nat.{_+_, _<_};
 ghost use lib.ListN.{length, getD};
-ghost use Rattle.capi.specs.Lent.{Gives};
+ghost use Rattle.layouts.specs.Lent.{Gives};
 
 // Octet i of two parts, one behind the other.
 fn octet_at(head: &[u8], tail: &[u8], i: usize) -> u8
