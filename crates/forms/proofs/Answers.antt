@@ -14,9 +14,9 @@ use Rattle.transactions.specs.Transactions.{isFull, repeats, serialOf, dataOf}
 use Rattle.transactions.specs.Flags.{withFlag}
 use Rattle.transactions.specs.Answers.{Said, refused, opened, repeat, stored, bad, message, response, numberOf, responseSaid}
 use Rattle.transactions.proofs.Tests.{either}
-use Rattle.receiver.specs.Receiver.{held, allHeld}
+use Rattle.receiver_state.specs.Receiver.{held, allHeld}
 use Rattle.receiver.specs.Events.{said, changed, headerNumber, onHeader, putBlock, blockNumber, completed, taken, onBlock, onEnd}
-use Rattle.receiver.specs.declared.state.Receiver.{Receiver}
+use Rattle.receiver_state.specs.declared.Receiver.{Receiver}
 use Rattle.history.specs.History.{Event, header, block, ended}
 use Rattle.history.specs.Run.{State, answerTo}
 use Rattle.logs.specs.Log.{answer, codeOf, contentsOf, lineOctets, lineIn}

@@ -11,7 +11,7 @@ use Rattle.addresses.specs.Octets.{addressAt}
 use Rattle.addresses.specs.declared.RadioAddress.{RadioAddress}
 use Rattle.transactions.specs.Answers.{numberOf}
 use Rattle.transactions.proofs.Tests.{either}
-use Rattle.receiver.specs.Receiver.{freshReceiver}
+use Rattle.receiver_state.specs.Receiver.{freshReceiver}
 use Rattle.stored.specs.Stored.{storedBlock, block0, receiverIn, restoreNumber, restored, afterRestore}
 use Rattle.stored.specs.Claims.{Restores}
 use Rattle.stored.specs.declared.restoring.Restored.{Restored}

@@ -19,9 +19,9 @@ use Rattle.packets.proofs.Octets.{octets-take, octets-drop}
 use Rattle.transactions.specs.Flags.{flagOctetCount}
 use Rattle.transactions.proofs.Tests.{either, never}
 use Rattle.transactions.proofs.Order.{numbered}
-use Rattle.receiver.specs.Receiver.{storeSize, freshReceiver, freshFor, receiverGood}
-use Rattle.receiver.specs.declared.state.Receiver.{Receiver}
-use Rattle.receiver.specs.declared.state.Fresh.{Fresh}
+use Rattle.receiver_state.specs.Receiver.{storeSize, freshReceiver, freshFor, receiverGood}
+use Rattle.receiver_state.specs.declared.Receiver.{Receiver}
+use Rattle.receiver_state.specs.declared.Fresh.{Fresh}
 use Rattle.stored.specs.Stored.{storedBlock, block0, block1, receiverIn, storeIn, layoutTests, restoreTests, restoreNumber, restored, afterRestore}
 use Rattle.stored.specs.Claims.{Savable}
 use Rattle.stored.specs.declared.restoring.Restored.{Restored}

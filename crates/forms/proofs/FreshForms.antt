@@ -11,8 +11,8 @@ use borrow.Author.Tests.{eq-eqb, ne-eqb, ltb-true}
 use Rattle.addresses.specs.declared.RadioAddress.{RadioAddress}
 use Rattle.codes.specs.Order.{firstFailed}
 use Rattle.transactions.proofs.Tests.{either}
-use Rattle.receiver.specs.Receiver.{freshReceiver, freshFor}
-use Rattle.receiver.specs.declared.state.Fresh.{Fresh}
+use Rattle.receiver_state.specs.Receiver.{freshReceiver, freshFor}
+use Rattle.receiver_state.specs.declared.Fresh.{Fresh}
 use Rattle.stored.specs.Stored.{storedBlock, saveNumber, afterSave}
 use Rattle.stored.proofs.Numbers.{save-taken}
 use Rattle.stored.proofs.RestoredBack.{fresh-good}

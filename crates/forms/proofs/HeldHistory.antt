@@ -15,9 +15,8 @@ use Rattle.transactions.specs.Flags.{flagCount, flagged}
 use Rattle.transactions.proofs.Tests.{either, never}
 use Rattle.transactions.proofs.Order.{all-at}
 use Rattle.transactions.proofs.FlagOctets.{flagged-far}
-use Rattle.receiver.specs.Receiver.{held, allHeld, noneFrom, receiverGood, transactionNone, transactionGood}
-use Rattle.receiver.specs.Events.{blockAt}
-use Rattle.receiver.specs.declared.state.Receiver.{Receiver}
+use Rattle.receiver_state.specs.Receiver.{blockAt, held, allHeld, noneFrom, receiverGood, transactionNone, transactionGood}
+use Rattle.receiver_state.specs.declared.Receiver.{Receiver}
 use Rattle.stored.specs.Claims.{Savable}
 use Rattle.history.specs.History.{Event, Kept, History, holds, heldData, whole}
 use Rattle.history.specs.Run.{afterEvent}

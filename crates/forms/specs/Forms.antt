@@ -11,7 +11,7 @@ use Rattle.addresses.specs.declared.RadioAddress.{RadioAddress}
 use Rattle.codes.specs.Order.{firstFailed}
 use Rattle.datagrams.specs.Datagrams.{readDatagram}
 use Rattle.transactions.specs.Answers.{numberOf}
-use Rattle.receiver.specs.Receiver.{storeSize, freshReceiver, freshFor}
+use Rattle.receiver_state.specs.Receiver.{storeSize, freshReceiver, freshFor}
 use Rattle.stored.specs.Stored.{storedBlock, saved, block0, block1, receiverIn, storeIn, restoreNumber}
 use Rattle.history.specs.History.{header, block}
 use Rattle.history.specs.Run.{event, State, savedForm}

@@ -8,7 +8,7 @@ ghost use Rattle.history.specs.History.{header, block, ended};
 ghost use Rattle.history.specs.Run.{event};
 ghost use Rattle.history.specs.Claims.{Octets};
 ghost use Rattle.logs.specs.Log.{act, recordOf, lineSize, stateOf};
-ghost use Rattle.receiver.specs.Receiver.{storeSize, freshReceiver};
+ghost use Rattle.receiver_state.specs.Receiver.{storeSize, freshReceiver};
 ghost use Rattle.stored.specs.Stored.{storedBlock, restored, afterRestore};
 ghost use Rattle.stored.specs.Claims.{Savable};
 ghost use Rattle.forms.specs.Forms.{freshNumber, afterFresh, eventNumber, formAfter, lineAfter, carried};
@@ -16,8 +16,8 @@ ghost use Rattle.forms.specs.Claims.{FormClaim};
 ghost use Rattle.forms.specs.Parts.{AnEvent, Answered};
 use addresses::RadioAddress;
 use logs::recording::LINE;
-use receiver::state::Receiver;
-use receiver::state::STORE;
+use receiver_state::Receiver;
+use receiver_state::STORE;
 use stored::restoring::Restored;
 use stored::saving::FORM;
 
@@ -39,7 +39,7 @@ pub fn fresh_form(own: RadioAddress, s0: u8, s1: u8, form: &mut [u8]) -> u8
     if form.len() != FORM {
         return 1;
     }
-    let fresh = receiver::state::fresh_for(own);
+    let fresh = receiver_state::fresh_for(own);
     if fresh.number != 0 {
         return 16;
     }
@@ -57,7 +57,7 @@ fn take_form(form: &[u8], store: &mut [u8]) -> Restored
         × (now (store .exit) ≡ afterRestore (freshReceiver (addressAt (now (form .entry)) 5)) (now (form .entry)) (replicate storeSize 0)) ⌝ }
 {
     let own = addresses::radio_address(form[5], form[6], form[7]);
-    let fresh = receiver::state::fresh_for(own);
+    let fresh = receiver_state::fresh_for(own);
     let rx = fresh.receiver;
     stored::restoring::restore(rx, form, store)
 }

@@ -4,8 +4,8 @@ ghost use mathlib.Core.Path.{_≡_};
 ghost use Prim.Native.Nat.{_+_, _*_, _≤_};
 ghost use lib.ListN.{length};
 use counting::Counts;
-use receiver::state::Receiver;
-use receiver::state::STORE;
+use receiver_state::Receiver;
+use receiver_state::STORE;
 
 const DATAGRAM: usize = 53;
 
@@ -136,7 +136,7 @@ fn main() {
         put_end(counts);
         return;
     }
-    let fresh = receiver::state::fresh_for(addresses::radio_address(own[0], own[1], own[2]));
+    let fresh = receiver_state::fresh_for(addresses::radio_address(own[0], own[1], own[2]));
     let receiver = fresh.receiver;
     let g = run(Gateway { receiver, counts });
     put_end(g.counts);

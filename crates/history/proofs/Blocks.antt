@@ -21,8 +21,8 @@ use Rattle.transactions.specs.declared.header.Transaction.{Transaction}
 use Rattle.transactions.proofs.Tests.{either, never}
 use Rattle.transactions.proofs.Order.{all-nil, all-cons, all-at, passed}
 use Rattle.transactions.proofs.FlagOctets.{flagged-with, octets-with, length-with}
-use Rattle.receiver.specs.Receiver.{storeSize, noFlags, held, allHeld, transactionGood}
-use Rattle.receiver.specs.Events.{said, answered, changed, blockAt, putBlock, blockNumber, completed, taken, onBlock}
+use Rattle.receiver_state.specs.Receiver.{blockAt, storeSize, noFlags, held, allHeld, transactionGood}
+use Rattle.receiver.specs.Events.{said, answered, changed, putBlock, blockNumber, completed, taken, onBlock}
 use Rattle.receiver.specs.declared.event.Answer.the-variants.{Bad, Message}
 use Rattle.receiver.proofs.StoreBlocks.{length-put, at-put-same, at-put-other}
 use Rattle.history.specs.History.{History, block, holds, heldData, valid, keeping, whole, messageOf, afterBlock, after, keptNumber, handedOn, blockSaid, saidTo}

@@ -6,7 +6,7 @@ use mathlib.Core.List.{List, [], _∷_}
 use Prim.Native.Nat.{ℕ, _^_, _<_}
 use lib.ListN.{length}
 use Rattle.addresses.specs.declared.RadioAddress.{RadioAddress}
-use Rattle.receiver.specs.Receiver.{storeSize}
+use Rattle.receiver_state.specs.Receiver.{storeSize}
 use Rattle.stored.specs.Claims.{Savable}
 use Rattle.history.specs.History.{Event, header, block, ended, History, nothing, after, saidTo, historyFrom, saidFrom}
 use Rattle.history.specs.Run.{Action, event, restart, State, afterEvent, answerTo, answers, left, events}

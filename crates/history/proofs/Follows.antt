@@ -19,8 +19,7 @@ use Rattle.transactions.specs.declared.header.Transaction.{Transaction}
 use Rattle.transactions.proofs.Tests.{either, never}
 use Rattle.transactions.proofs.Order.{all-nil, all-cons}
 use Rattle.transactions.proofs.FlagOctets.{flagged-none}
-use Rattle.receiver.specs.Receiver.{storeSize, noFlags, noTransaction, freshReceiver, freshFor, held, allHeld, noneFrom, receiverGood}
-use Rattle.receiver.specs.Events.{blockAt}
+use Rattle.receiver_state.specs.Receiver.{blockAt, storeSize, noFlags, noTransaction, freshReceiver, freshFor, held, allHeld, noneFrom, receiverGood}
 use Rattle.stored.specs.Claims.{Savable}
 use Rattle.history.specs.History.{History, nothing, holds, heldData, whole, messageOf}
 use Rattle.history.specs.Run.{State}

@@ -25,10 +25,10 @@ use Rattle.transactions.specs.Transactions.{serialOf}
 use Rattle.transactions.specs.Answers.{message}
 use Rattle.transactions.specs.declared.header.Transaction.{Transaction}
 use Rattle.transactions.proofs.Tests.{either}
-use Rattle.receiver.specs.Receiver.{storeSize, held, allHeld, freshReceiver, freshFor}
+use Rattle.receiver_state.specs.Receiver.{storeSize, held, allHeld, freshReceiver, freshFor}
 use Rattle.receiver.specs.Events.{Left, said, blockNumber, completed, taken, onHeader, onBlock}
-use Rattle.receiver.specs.declared.state.Receiver.{Receiver}
-use Rattle.receiver.specs.declared.state.Fresh.{Fresh}
+use Rattle.receiver_state.specs.declared.Receiver.{Receiver}
+use Rattle.receiver_state.specs.declared.Fresh.{Fresh}
 use Rattle.receiver.specs.declared.event.Answer.{Answer}
 use Rattle.receiver.specs.declared.event.Answer.the-variants.{Refused, Opened, Repeat, Stored, Bad, Message}
 use Rattle.receiver.specs.declared.event.Step.{Step}

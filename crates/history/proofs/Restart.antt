@@ -6,7 +6,7 @@ use Prim.Native.Nat.{ℕ}
 use native.Mathlib.Omega.{arith}
 use lib.ListN.{length}
 use Rattle.addresses.specs.declared.RadioAddress.{RadioAddress}
-use Rattle.receiver.specs.Receiver.{storeSize}
+use Rattle.receiver_state.specs.Receiver.{storeSize}
 use Rattle.stored.specs.Claims.{heldStore, Restores}
 use Rattle.stored.proofs.Claims.{claims}
 use Rattle.stored.proofs.HeldOctets.{length-heldStore}

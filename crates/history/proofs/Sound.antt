@@ -16,7 +16,7 @@ use Rattle.transactions.specs.Transactions.{all, transactionOf, isFull, heardTe
 use Rattle.transactions.specs.declared.header.Transaction.{Transaction}
 use Rattle.transactions.proofs.Tests.{either, never}
 use Rattle.transactions.proofs.Order.{all-nil, all-cons, all-at, passed}
-use Rattle.receiver.specs.Receiver.{transactionGood, transactionNone}
+use Rattle.receiver_state.specs.Receiver.{transactionGood, transactionNone}
 use Rattle.history.specs.History.{Kept, History, nothing, holds, opens, valid, keeping, whole, messageOf, afterHeader, afterBlock}
 use Rattle.history.specs.Claims.{Octets}
 use Rattle.history.proofs.Kept.{holds-none, holds-more, whole-at}

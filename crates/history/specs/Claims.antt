@@ -9,8 +9,7 @@ use Rattle.addresses.specs.declared.RadioAddress.{RadioAddress}
 use Rattle.messages.specs.Messages.{mostOctets, blocksOf, writeMessageBlock, fullHeader, Within}
 use Rattle.messages.specs.declared.message.Delivery.{Delivery}
 use Rattle.transactions.specs.Answers.{Said, refused, opened, repeat, stored, bad, message, response}
-use Rattle.receiver.specs.Receiver.{storeSize, freshReceiver, held}
-use Rattle.receiver.specs.Events.{blockAt}
+use Rattle.receiver_state.specs.Receiver.{blockAt, storeSize, freshReceiver, held}
 use Rattle.stored.specs.Claims.{Savable}
 use Rattle.history.specs.History.{Event, header, block, ended, History, nothing, holds, heldData, historyFrom, saidFrom}
 use Rattle.history.specs.Run.{Action, event, restart, State, afterEvent, answerTo, answers, left, events}

@@ -3,9 +3,9 @@
 use mathlib.Core.List.{List, [], _∷_}
 use Prim.Native.Nat.{ℕ}
 use Rattle.transactions.specs.Answers.{Said, responseSaid}
-use Rattle.receiver.specs.Receiver.{freshReceiver}
+use Rattle.receiver_state.specs.Receiver.{freshReceiver}
 use Rattle.receiver.specs.Events.{said, onHeader, onBlock, onEnd}
-use Rattle.receiver.specs.declared.state.Receiver.{Receiver}
+use Rattle.receiver_state.specs.declared.Receiver.{Receiver}
 use Rattle.stored.specs.Stored.{saved, restored, afterRestore}
 use Rattle.history.specs.History.{Event, header, block, ended}
 

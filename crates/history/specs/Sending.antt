@@ -9,7 +9,7 @@ use lib.ListN.{length, take}
 use Rattle.codes.specs.Order.{firstFailed}
 use Rattle.messages.specs.Messages.{fullHeader}
 use Rattle.messages.specs.declared.message.Delivery.{Delivery}
-use Rattle.receiver.specs.Receiver.{storeSize}
+use Rattle.receiver_state.specs.Receiver.{storeSize}
 use Rattle.receiver.specs.declared.event.Answer.{Answer}
 use Rattle.receiver.specs.declared.event.Answer.the-variants.{Refused, Message}
 

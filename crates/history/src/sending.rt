@@ -4,7 +4,7 @@ ghost use Rattle.history.specs.Examples.{PExamples};
 ghost use Rattle.history.specs.Sending.{LoopsBack};
 use messages::message::Delivery;
 use receiver::event::Answer;
-use receiver::state::STORE;
+use receiver_state::STORE;
 
 // Writes a message, gives it whole and in order to a fresh receiver of its destination, and tells the answer to the last block. The message
 // then stands in front in the store. As the self-test of writer and receiver it also promises that restarts between the events change
@@ -19,7 +19,7 @@ pub fn loop_back(message: &[u8], d: Delivery, store: &mut [u8]) -> Answer
     if header.number != 0 {
         return Answer::Refused(16);
     }
-    let fresh = receiver::state::fresh_for(d.destination);
+    let fresh = receiver_state::fresh_for(d.destination);
     let first = fresh.receiver;
     let octets = header.octets;
     let opened = receiver::event::on_header(first, &octets);

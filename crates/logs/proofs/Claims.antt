@@ -13,7 +13,7 @@ use Rattle.packets.proofs.Octets.{octets-take, octets-drop}
 use Rattle.transactions.specs.Transactions.{all}
 use Rattle.transactions.proofs.Tests.{either}
 use Rattle.transactions.proofs.Order.{all-at}
-use Rattle.receiver.specs.Receiver.{storeSize}
+use Rattle.receiver_state.specs.Receiver.{storeSize}
 use Rattle.history.specs.History.{header, block, ended}
 use Rattle.history.specs.Run.{event, restart}
 use Rattle.history.specs.Claims.{Octets, Possible}

@@ -12,8 +12,8 @@ use Rattle.codes.specs.Order.{firstFailed}
 use Rattle.transactions.specs.Transactions.{all}
 use Rattle.transactions.proofs.Tests.{either}
 use Rattle.transactions.proofs.Order.{all-nil, all-cons, all-at, all-fails}
-use Rattle.receiver.specs.Receiver.{storeSize, freshReceiver, freshFor, receiverGood}
-use Rattle.receiver.specs.declared.state.Receiver.{Receiver}
+use Rattle.receiver_state.specs.Receiver.{storeSize, freshReceiver, freshFor, receiverGood}
+use Rattle.receiver_state.specs.declared.Receiver.{Receiver}
 use Rattle.stored.specs.Stored.{storedBlock, saved, saveNumber, afterSave, restored, afterRestore}
 use Rattle.history.specs.History.{header, block, ended}
 use Rattle.history.specs.Run.{event, restart, State, savedForm, afterRestart}

@@ -12,9 +12,9 @@ use borrow.Author.Tests.{lt-leb, le-leb}
 use Rattle.addresses.specs.Octets.{addressAt}
 use Rattle.addresses.specs.declared.RadioAddress.{RadioAddress}
 use Rattle.packets.proofs.Octets.{octets-take, octets-drop}
-use Rattle.receiver.specs.Receiver.{storeSize, freshReceiver, freshFor}
-use Rattle.receiver.specs.declared.state.Receiver.{Receiver}
-use Rattle.receiver.specs.declared.state.Fresh.{Fresh}
+use Rattle.receiver_state.specs.Receiver.{storeSize, freshReceiver, freshFor}
+use Rattle.receiver_state.specs.declared.Receiver.{Receiver}
+use Rattle.receiver_state.specs.declared.Fresh.{Fresh}
 use Rattle.history.specs.History.{History, nothing, after}
 use Rattle.history.specs.Run.{event, restart, State}
 use Rattle.history.specs.Claims.{Octets, freshState}

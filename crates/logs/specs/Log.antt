@@ -13,8 +13,8 @@ use Rattle.messages.specs.Messages.{blockSize}
 use Rattle.transactions.specs.Transactions.{all}
 use Rattle.transactions.specs.Flags.{flagOctets}
 use Rattle.transactions.specs.Answers.{Said, refused, opened, repeat, stored, bad, message, response}
-use Rattle.receiver.specs.Receiver.{storeSize, receiverGood}
-use Rattle.receiver.specs.declared.state.Receiver.{Receiver}
+use Rattle.receiver_state.specs.Receiver.{storeSize, receiverGood}
+use Rattle.receiver_state.specs.declared.Receiver.{Receiver}
 use Rattle.stored.specs.Stored.{storedBlock, storedForm}
 use Rattle.history.specs.History.{header, block, ended, History, nothing, holds, heldData, after, saidTo}
 use Rattle.history.specs.Run.{Action, event, restart, State, afterEvent, answerTo, savedForm, afterRestart}

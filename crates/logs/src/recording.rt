@@ -7,7 +7,7 @@ ghost use Prim.Native.Nat.{_+_, _*_, _≤_};
 ghost use lib.Dec.{ltb};
 ghost use lib.ListN.{length, getD};
 ghost use Rattle.transactions.specs.Answers.{refused, responseSaid};
-ghost use Rattle.receiver.specs.Receiver.{storeSize, receiverGood};
+ghost use Rattle.receiver_state.specs.Receiver.{storeSize, receiverGood};
 ghost use Rattle.receiver.specs.Events.{said};
 ghost use Rattle.stored.specs.Stored.{storedBlock};
 ghost use Rattle.history.specs.History.{header, block};
@@ -16,8 +16,8 @@ ghost use Rattle.logs.specs.Claims.{RecordRefused};
 ghost use Rattle.logs.specs.Log.{lineSize, answer, restored, act, recordOf, lineOctets, lineIn, lineOf, restartOf, afterRecord, stateOf, recorded, recordStore, recordLine};
 use messages::response::ResponseOctets;
 use receiver::event::Answer;
-use receiver::state::Receiver;
-use receiver::state::STORE;
+use receiver_state::Receiver;
+use receiver_state::STORE;
 use stored::saving::FORM;
 
 // Octets of a line, and of its contents.
@@ -190,7 +190,7 @@ fn record_restart(rx: Receiver, store: &mut [u8], octets: &[u8], line: &mut [u8]
     stored::saving::save(rx, store, octets[0], octets[1], &mut form);
     put(line, RESTORED, &form);
     put_store(store, &octets[2..]);
-    let fresh = receiver::state::fresh_for(rx.own);
+    let fresh = receiver_state::fresh_for(rx.own);
     let next = fresh.receiver;
     let restored = stored::restoring::restore(next, &form, store);
     restored.receiver
@@ -238,7 +238,7 @@ pub fn record(rx: Receiver, store: &mut [u8], kind: u8, octets: &[u8], line: &mu
         × (now (line .exit) ≡ recordLine rx (now (store .entry)) (recordOf kind (now (octets .entry))) (now (line .entry)))
         × RecordRefused (stateOf rx (now (store .entry))) (recordOf kind (now (octets .entry))) ⌝ }
 {
-    if !receiver::state::is_good(rx) {
+    if !receiver_state::is_good(rx) {
         return Recorded {
             number: 1,
             receiver: rx,

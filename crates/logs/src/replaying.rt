@@ -4,12 +4,12 @@ ghost use mathlib.Core.Path.{_≡_};
 ghost use mathlib.Core.List.{List};
 ghost use Prim.Native.Nat.{ℕ, _<_};
 ghost use lib.ListN.{length};
-ghost use Rattle.receiver.specs.Receiver.{storeSize};
+ghost use Rattle.receiver_state.specs.Receiver.{storeSize};
 ghost use Rattle.logs.specs.Claims.{LogClaims};
 ghost use Rattle.logs.specs.Log.{recordsOf, replayed, afterReplay};
 ghost use Rattle.logs.specs.Parts.{Cuts};
 use crate::recording::LINE;
-use receiver::state::STORE;
+use receiver_state::STORE;
 
 // The kind that no record has, for one that is cut short.
 const NONE: u8 = 255;
@@ -87,7 +87,7 @@ pub fn replay(log: &[u8], report: &mut [u8]) -> Replayed
         };
     }
     let own = addresses::radio_address(log[0], log[1], log[2]);
-    let fresh = receiver::state::fresh_for(own);
+    let fresh = receiver_state::fresh_for(own);
     let mut rx = fresh.receiver;
     let mut store = [0u8; STORE];
     let mut at: usize = 3;

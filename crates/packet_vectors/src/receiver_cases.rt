@@ -4,8 +4,8 @@ ghost use Prim.Native.Nat.{_+_, _%_, _^_};
 use addresses::RadioAddress;
 use messages::response::ResponseOctets;
 use receiver::event::Answer;
-use receiver::state::Receiver;
-use receiver::state::STORE;
+use receiver_state::Receiver;
+use receiver_state::STORE;
 use report::Tally;
 use transactions::header::Transaction;
 

@@ -18,11 +18,11 @@ use Rattle.transactions.specs.Answers.{noResponse, responseTo}
 use Rattle.transactions.specs.declared.header.Transaction.{Transaction}
 use Rattle.transactions.specs.declared.header.Heard.the-variants as heard
 use Rattle.transactions.proofs.Tests.{either}
-use Rattle.receiver.specs.Receiver.{storeSize, noFlags, receiverGood}
+use Rattle.receiver_state.specs.Receiver.{storeSize, noFlags, receiverGood}
 use Rattle.receiver.specs.Events.{Left, answered, headerNumber, openedBy, onHeader, onBlock, onEnd, arrivedNumber, onDatagram}
 use Rattle.receiver.specs.Claims.{Arrives}
 use Rattle.receiver.specs.Parts.{heardBy}
-use Rattle.receiver.specs.declared.state.Receiver.{Receiver}
+use Rattle.receiver_state.specs.declared.Receiver.{Receiver}
 use Rattle.receiver.specs.declared.event.Answer.the-variants.{Refused, Opened, Repeat}
 use Rattle.receiver.specs.declared.event.Step.{Step}
 use Rattle.receiver.proofs.Claims.{claims}

@@ -15,9 +15,9 @@ use Rattle.packets.specs.declared.block.Block.{Block}
 use Rattle.transactions.specs.Transactions.{serialOf, dataOf, sameData, takenTests, takenNumber}
 use Rattle.transactions.proofs.Tests.{either}
 use Rattle.transactions.proofs.Order.{all-at, passed, block-run, run-fails}
-use Rattle.receiver.specs.declared.state.Receiver.{Receiver}
-use Rattle.receiver.specs.Receiver.{storeSize, held, transactionGood, receiverGood}
-use Rattle.receiver.specs.Events.{blockAt, blockNumber}
+use Rattle.receiver_state.specs.declared.Receiver.{Receiver}
+use Rattle.receiver_state.specs.Receiver.{blockAt, storeSize, held, transactionGood, receiverGood}
+use Rattle.receiver.specs.Events.{blockNumber}
 use Rattle.receiver.specs.Parts.{numberWith}
 use Rattle.receiver.proofs.Taking.{good-blocks}
 

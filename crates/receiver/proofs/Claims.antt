@@ -16,11 +16,11 @@ use Rattle.datagrams.proofs.DatagramClaims.{datagrams}
 use Rattle.transactions.specs.Transactions.{isFull, repeats, serialOf, dataOf}
 use Rattle.transactions.specs.Flags.{withFlag}
 use Rattle.transactions.proofs.Tests.{either, never}
-use Rattle.receiver.specs.declared.state.Receiver.{Receiver}
+use Rattle.receiver_state.specs.declared.Receiver.{Receiver}
 use Rattle.receiver.specs.declared.event.Answer.{Answer}
 use Rattle.receiver.specs.declared.event.Answer.the-variants.{Refused, Opened, Repeat, Stored, Bad, Message}
 use Rattle.receiver.specs.declared.event.Step.{Step}
-use Rattle.receiver.specs.Receiver.{storeSize, noFlags, held, allHeld, receiverGood}
+use Rattle.receiver_state.specs.Receiver.{storeSize, noFlags, held, allHeld, receiverGood}
 use Rattle.receiver.specs.Events.{answered, changed, headerNumber, openedBy, onHeader, putBlock, Left, blockNumber, completed, taken, onBlock, arrivedNumber, onDatagram}
 use Rattle.receiver.specs.Claims.{Arrives, not-taken, a-header, a-block, HeaderRefused, BlockRefused, ReceiverClaims}
 

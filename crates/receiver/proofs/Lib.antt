@@ -1,4 +1,3 @@
-pub mod Possible
 pub mod Arriving
 pub mod StoreBlocks
 pub mod Taking

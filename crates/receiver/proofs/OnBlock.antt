@@ -10,7 +10,7 @@ use Rattle.packets.specs.Blocks.{readBlock}
 use Rattle.packets.specs.declared.block.Block.{Block}
 use Rattle.transactions.specs.Transactions.{serialOf, dataOf}
 use Rattle.transactions.specs.Flags.{flagged, withFlag}
-use Rattle.receiver.specs.declared.state.Receiver.{Receiver}
+use Rattle.receiver_state.specs.declared.Receiver.{Receiver}
 use Rattle.receiver.specs.declared.event.Answer.the-variants.{Refused, Repeat}
 use Rattle.receiver.specs.Events.{Left, answered, changed, putBlock, blockNumber, taken, onBlock}
 use Rattle.receiver.specs.Parts.{numberWith}

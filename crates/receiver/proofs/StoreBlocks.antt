@@ -12,7 +12,8 @@ use lib.ListN.{length, getD, take, drop, set, length-append, length-take, length
 use lib.Seq.{ext-getD, getD-take, getD-drop, getD-append-add, take-all, paste, paste-suc}
 use borrow.Author.Tests.{ltb-true, ltb-false, eq-eqb, ne-eqb}
 use Rattle.transactions.proofs.Tests.{either}
-use Rattle.receiver.specs.Events.{blockAt, putBlock}
+use Rattle.receiver_state.specs.Receiver.{blockAt}
+use Rattle.receiver.specs.Events.{putBlock}
 
 pub length-at : (store : List ℕ) (n : ℕ) → 10 * n + 10 ≤ length store → length (blockAt store n) ≡ 10
 unfolding blockAt

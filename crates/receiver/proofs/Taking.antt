@@ -13,9 +13,9 @@ use Rattle.messages.specs.Messages.{blockSize, checkSize}
 use Rattle.transactions.specs.Flags.{flagged}
 use Rattle.transactions.specs.declared.header.Transaction.{Transaction}
 use Rattle.transactions.proofs.Order.{all-at}
-use Rattle.receiver.specs.declared.state.Receiver.{Receiver}
+use Rattle.receiver_state.specs.declared.Receiver.{Receiver}
 use Rattle.receiver.specs.declared.event.Answer.the-variants.{Stored, Bad, Message}
-use Rattle.receiver.specs.Receiver.{noFlags, allHeld, transactionGood}
+use Rattle.receiver_state.specs.Receiver.{noFlags, allHeld, transactionGood}
 use Rattle.receiver.specs.Events.{answered, changed, completed, taken}
 
 pub good-blocks : (t : Transaction) → transactionGood t ≡ true → (1 ≤ t .blocks) × (t .blocks ≤ 63) × (t .pad + 4 ≤ 10 * t .blocks)

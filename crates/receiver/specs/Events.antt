@@ -12,11 +12,11 @@ use Rattle.datagrams.specs.Datagrams.{datagramNumber, readDatagram}
 use Rattle.transactions.specs.Transactions.{transactionOf, isFull, heardNumber, repeats, serialOf, dataOf, takenNumber}
 use Rattle.transactions.specs.Flags.{withFlag}
 use Rattle.transactions.specs.Answers.{Said, refused, opened, repeat, stored, bad, message, noResponse, responseTo}
-use Rattle.receiver.specs.declared.state.Receiver.{Receiver}
+use Rattle.receiver_state.specs.declared.Receiver.{Receiver}
 use Rattle.receiver.specs.declared.event.Answer.{Answer}
 use Rattle.receiver.specs.declared.event.Answer.the-variants.{Refused, Opened, Repeat, Stored, Bad, Message}
 use Rattle.receiver.specs.declared.event.Step.{Step}
-use Rattle.receiver.specs.Receiver.{storeSize, noFlags, held, allHeld, receiverGood}
+use Rattle.receiver_state.specs.Receiver.{blockAt, storeSize, noFlags, held, allHeld, receiverGood}
 
 -- what is answered, in document 01's numbers and values: a message is the store's first octets
 unfoldable pub said : Answer → List ℕ → Said
@@ -52,10 +52,7 @@ onHeader rx h =
 
 -- ---- a block
 
--- block n stands at 10n
-unfoldable pub blockAt : List ℕ → ℕ → List ℕ
-blockAt store n = take blockSize (drop (blockSize * n) store)
-
+-- octets put where block n stands
 unfoldable pub putBlock : List ℕ → ℕ → List ℕ → List ℕ
 putBlock store n os = take (blockSize * n) store ++ os ++ drop (blockSize * n + blockSize) store
 

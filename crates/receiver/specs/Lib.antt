@@ -1,4 +1,3 @@
-pub mod Receiver
 pub mod Events
 pub mod Claims
 pub mod Parts

@@ -9,11 +9,11 @@ use Rattle.codes.specs.Order.{firstFailed}
 use Rattle.packets.specs.declared.block.Block.{Block}
 use Rattle.transactions.specs.Transactions.{belongs, sameData}
 use Rattle.transactions.specs.declared.header.Transaction.{Transaction}
-use Rattle.receiver.specs.declared.state.Receiver.{Receiver}
+use Rattle.receiver_state.specs.declared.Receiver.{Receiver}
 use Rattle.receiver.specs.declared.event.Answer.the-variants.{Refused, Opened, Repeat}
 use Rattle.receiver.specs.declared.event.Step.{Step}
-use Rattle.receiver.specs.Receiver.{storeSize, noFlags, held, receiverGood}
-use Rattle.receiver.specs.Events.{answered, blockAt}
+use Rattle.receiver_state.specs.Receiver.{blockAt, storeSize, noFlags, held, receiverGood}
+use Rattle.receiver.specs.Events.{answered}
 
 -- a header that is for this receiver
 unfoldable pub heardBy : Receiver → Transaction → Bool → Step

@@ -6,17 +6,17 @@ ghost use mathlib.Core.Bool.{true, false, cond};
 ghost use lib.Dec.{eqb};
 ghost use Rattle.messages.specs.Messages.{blockSize};
 ghost use Rattle.transactions.specs.Transactions.{belongs, sameData};
-ghost use Rattle.receiver.specs.Receiver.{storeSize, transactionGood};
-ghost use Rattle.receiver.specs.Events.{answered, onHeader, blockAt, putBlock, taken, onBlock, onEnd, onDatagram};
+ghost use Rattle.receiver_state.specs.Receiver.{blockAt, storeSize, transactionGood};
+ghost use Rattle.receiver.specs.Events.{answered, onHeader, putBlock, taken, onBlock, onEnd, onDatagram};
 ghost use Rattle.receiver.specs.declared.event.Answer.the-variants.{Refused};
 ghost use Rattle.receiver.specs.Claims.{HeaderRefused, BlockRefused, Arrives};
 ghost use Rattle.receiver.specs.Parts.{heardBy, numberWith};
-use crate::state::Receiver;
-use crate::state::STORE;
 use messages::message::BLOCK;
 use messages::message::CHECK;
 use messages::response::ResponseOctets;
 use packets::block::Block;
+use receiver_state::Receiver;
+use receiver_state::STORE;
 use transactions::header::Heard;
 use transactions::header::Transaction;
 
@@ -88,7 +88,7 @@ fn heard(rx: Receiver, t: Transaction, full: bool) -> Step
 pub fn on_header(rx: Receiver, header: &[u8]) -> Step
     ensures { λ r. ⌜ (r ≡ onHeader rx (now (header .entry))) × HeaderRefused rx (now (header .entry)) ⌝ }
 {
-    if !crate::state::is_good(rx) {
+    if !receiver_state::is_good(rx) {
         return refused(rx, 1);
     }
     let own = rx.own;
@@ -131,7 +131,7 @@ fn put_block(store: &mut [u8], n: usize, octets: [u8; BLOCK])
 fn number_of(rx: Receiver, store: &[u8], block: Block) -> u8
     ensures { λ r. ⌜ r ≡ numberWith rx (now (store .entry)) block ⌝ }
 {
-    if !crate::state::is_good(rx) {
+    if !receiver_state::is_good(rx) {
         return 1;
     }
     if store.len() != STORE {
@@ -239,7 +239,7 @@ pub fn on_block(rx: Receiver, store: &mut [u8], octets: &[u8]) -> Step
 pub fn on_end(rx: Receiver) -> ResponseOctets
     ensures { λ r. ⌜ r ≡ onEnd rx ⌝ }
 {
-    if !crate::state::is_good(rx) {
+    if !receiver_state::is_good(rx) {
         return ResponseOctets {
             number: 1,
             header: [0u8; 12],
@@ -261,7 +261,7 @@ pub fn on_datagram(rx: Receiver, store: &mut [u8], datagram: &[u8]) -> Step
         × (now (store .exit) ≡ onDatagram rx (now (store .entry)) (now (datagram .entry)) .store)
         × Arrives rx (now (store .entry)) (now (datagram .entry)) ⌝ }
 {
-    if !crate::state::is_good(rx) {
+    if !receiver_state::is_good(rx) {
         return refused(rx, 1);
     }
     if store.len() != STORE {

@@ -4,8 +4,8 @@ ghost use mathlib.Core.Path.{_≡_};
 ghost use Prim.Native.Nat.{_+_, _*_, _<_, _≤_};
 ghost use lib.ListN.{length};
 use logs::recording::LINE;
-use receiver::state::Receiver;
-use receiver::state::STORE;
+use receiver_state::Receiver;
+use receiver_state::STORE;
 
 // The most octets of a record.
 const MOST: usize = 65535;
@@ -236,6 +236,6 @@ fn main() {
     if n < 3 {
         return;
     }
-    let fresh = receiver::state::fresh_for(addresses::radio_address(own[0], own[1], own[2]));
+    let fresh = receiver_state::fresh_for(addresses::radio_address(own[0], own[1], own[2]));
     run(fresh.receiver);
 }

@@ -2,7 +2,7 @@
 -- Assumes nothing.
 use mathlib.Core.List.{List}
 use Prim.Native.Nat.{ℕ}
-use Rattle.receiver.specs.declared.state.Receiver.{Receiver}
+use Rattle.receiver_state.specs.declared.Receiver.{Receiver}
 use Rattle.stored.specs.Claims.{Savable, Restores, StoredClaims}
 use Rattle.stored.proofs.RestoredBack.{restores}
 use Rattle.stored.proofs.SavingBack.{saved-back}

@@ -14,9 +14,8 @@ use Rattle.codes.specs.Order.{every}
 use Rattle.codes.proofs.Tests.{every-at, every-true}
 use Rattle.messages.specs.Messages.{blockSize, mostBlocks}
 use Rattle.transactions.proofs.Tests.{either}
-use Rattle.receiver.specs.Receiver.{storeSize, held}
-use Rattle.receiver.specs.Events.{blockAt}
-use Rattle.receiver.specs.declared.state.Receiver.{Receiver}
+use Rattle.receiver_state.specs.Receiver.{blockAt, storeSize, held}
+use Rattle.receiver_state.specs.declared.Receiver.{Receiver}
 use Rattle.stored.specs.Stored.{heldOctets, clear, zerosFrom}
 use Rattle.stored.specs.Claims.{heldStore}
 

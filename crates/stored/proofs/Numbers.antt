@@ -14,8 +14,8 @@ use Rattle.codes.specs.Order.{firstFailed}
 use Rattle.checks.specs.Checks.{headerGood}
 use Rattle.transactions.specs.Transactions.{all}
 use Rattle.transactions.proofs.Order.{all-fails, passed}
-use Rattle.receiver.specs.Receiver.{storeSize, receiverGood}
-use Rattle.receiver.specs.declared.state.Receiver.{Receiver}
+use Rattle.receiver_state.specs.Receiver.{storeSize, receiverGood}
+use Rattle.receiver_state.specs.declared.Receiver.{Receiver}
 use Rattle.stored.specs.Stored.{storedBlock, zerosAt, zeroPart, saved, saveNumber, afterSave, block0, block1, receiverIn, storeIn, zerosFrom, clear, layoutTests, restoreTests, restoreNumber, restored, afterRestore}
 use Rattle.stored.specs.Parts.{marked, checked, layoutKept}
 use Rattle.stored.specs.declared.restoring.Restored.{Restored}

@@ -12,8 +12,8 @@ use Rattle.addresses.specs.declared.RadioAddress.{RadioAddress}
 use Rattle.checks.specs.Checks.{headerCheck, headerGood}
 use Rattle.checks.proofs.Claims.{claims as check-claims}
 use Rattle.transactions.specs.Flags.{flagOctetCount}
-use Rattle.receiver.specs.Receiver.{storeSize, held}
-use Rattle.receiver.specs.declared.state.Receiver.{Receiver}
+use Rattle.receiver_state.specs.Receiver.{storeSize, held}
+use Rattle.receiver_state.specs.declared.Receiver.{Receiver}
 use Rattle.stored.specs.Stored.{storedBlock, checkedSize, firstPart, secondPart, zeroPart, storeAt0, storeAt1, zerosAt, withStoredCheck, heldOctets, head0, body0, body1, storedForm, block0, block1, receiverIn, storeIn, zerosFrom}
 use Rattle.stored.proofs.HeldOctets.{length-held, held-append, zerosFrom-true}
 

@@ -17,8 +17,8 @@ use Rattle.transactions.specs.Flags.{flagCount, flagged}
 use Rattle.transactions.specs.declared.header.Transaction.{Transaction}
 use Rattle.transactions.proofs.Tests.{either}
 use Rattle.transactions.proofs.Order.{all-at, all-cons, all-nil, first-passed, first-run, numbered}
-use Rattle.receiver.specs.Receiver.{storeSize, noFlags, freshReceiver, noTransaction, held, allHeld, transactionGood, transactionNone, noneFrom, receiverGood}
-use Rattle.receiver.specs.declared.state.Receiver.{Receiver}
+use Rattle.receiver_state.specs.Receiver.{storeSize, noFlags, freshReceiver, noTransaction, held, allHeld, transactionGood, transactionNone, noneFrom, receiverGood}
+use Rattle.receiver_state.specs.declared.Receiver.{Receiver}
 use Rattle.stored.specs.Stored.{storedBlock, withStoredCheck, saved, block0, block1, receiverIn, storeIn, layoutTests, restoreTests, restoreNumber, restored, afterRestore}
 use Rattle.stored.specs.Claims.{Savable, heldStore, Restores}
 use Rattle.stored.proofs.HeldOctets.{heldStore-clear, block-kept, first-kept}

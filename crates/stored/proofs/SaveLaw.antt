@@ -10,8 +10,8 @@ use Rattle.addresses.specs.Octets.{threeOctets}
 use Rattle.polynomials.specs.Bits.{tabulate}
 use Rattle.polynomials.proofs.Runs.{tabulated}
 use Rattle.transactions.specs.Flags.{flagOctetCount}
-use Rattle.receiver.specs.Receiver.{held}
-use Rattle.receiver.specs.declared.state.Receiver.{Receiver}
+use Rattle.receiver_state.specs.Receiver.{held}
+use Rattle.receiver_state.specs.declared.Receiver.{Receiver}
 use Rattle.stored.specs.Stored.{storedBlock, checkedSize, firstPart, secondPart, storeAt0, storeAt1, zerosAt, withStoredCheck, heldOctets, head0, body0, storedForm, saved}
 use Rattle.stored.specs.Parts.{over}
 use Rattle.stored.proofs.HeldOctets.{length-held}

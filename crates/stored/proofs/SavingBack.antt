@@ -18,8 +18,8 @@ use Rattle.packets.proofs.Octets.{Octets, octets-take, octets-drop}
 use Rattle.transactions.specs.Flags.{flagOctetCount}
 use Rattle.transactions.proofs.Tests.{never}
 use Rattle.transactions.proofs.Order.{numbered}
-use Rattle.receiver.specs.Receiver.{storeSize, held}
-use Rattle.receiver.specs.declared.state.Receiver.{Receiver}
+use Rattle.receiver_state.specs.Receiver.{storeSize, held}
+use Rattle.receiver_state.specs.declared.Receiver.{Receiver}
 use Rattle.stored.specs.Stored.{storedBlock, checkedSize, firstPart, secondPart, zeroPart, storeAt0, storeAt1, zerosAt, withStoredCheck, heldOctets, body0, storedForm, saved, block0, block1, receiverIn, storeIn, zerosFrom, clear, layoutTests, restoreTests, restoreNumber}
 use Rattle.stored.proofs.HeldOctets.{held-all, clear-at, zerosFrom-at}
 use Rattle.stored.proofs.StoreReading.{part-tabulated, part0, part1, length-part0, length-part1, length-storeIn}

@@ -18,8 +18,8 @@ use Rattle.codes.specs.Order.{every}
 use Rattle.messages.specs.Messages.{blockSize}
 use Rattle.transactions.specs.Flags.{flagOctetCount, flagged}
 use Rattle.transactions.proofs.Order.{every-stops, every-goes}
-use Rattle.receiver.specs.Receiver.{storeSize}
-use Rattle.receiver.specs.declared.state.Receiver.{Receiver}
+use Rattle.receiver_state.specs.Receiver.{storeSize}
+use Rattle.receiver_state.specs.declared.Receiver.{Receiver}
 use Rattle.stored.specs.Stored.{storedBlock, firstPart, secondPart, storeAt0, storeAt1, receiverIn, storeIn, zerosFrom, clear}
 
 -- the octets of a part

@@ -8,9 +8,8 @@ use lib.ListN.{length, getD, take}
 use Rattle.checks.specs.Checks.{messageGood}
 use Rattle.messages.specs.Messages.{blockSize, mostBlocks}
 use Rattle.transactions.specs.Flags.{flagOctetCount}
-use Rattle.receiver.specs.Receiver.{storeSize, freshReceiver, held, receiverGood}
-use Rattle.receiver.specs.Events.{blockAt}
-use Rattle.receiver.specs.declared.state.Receiver.{Receiver}
+use Rattle.receiver_state.specs.Receiver.{blockAt, storeSize, freshReceiver, held, receiverGood}
+use Rattle.receiver_state.specs.declared.Receiver.{Receiver}
 use Rattle.stored.specs.Stored.{heldOctets, saved, block0, block1, receiverIn, storeIn, restoreNumber, restored, afterRestore}
 
 -- a receiver and a store as every run leaves them: what a receiver can be, sizes, and a good message check when complete

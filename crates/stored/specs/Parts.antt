@@ -8,7 +8,7 @@ use lib.ListN.{length, getD, take, drop}
 use Rattle.codes.specs.Order.{firstFailed}
 use Rattle.checks.specs.Checks.{messageGood}
 use Rattle.messages.specs.Messages.{blockSize}
-use Rattle.receiver.specs.declared.state.Receiver.{Receiver}
+use Rattle.receiver_state.specs.declared.Receiver.{Receiver}
 use Rattle.stored.specs.Stored.{layoutTests}
 
 -- octets written over a list at a place

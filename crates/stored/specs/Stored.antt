@@ -12,8 +12,8 @@ use Rattle.checks.specs.Checks.{headerCheck, headerGood, messageGood}
 use Rattle.messages.specs.Messages.{blockSize}
 use Rattle.transactions.specs.Flags.{flagOctetCount, flagged}
 use Rattle.transactions.specs.declared.header.Transaction.{Transaction}
-use Rattle.receiver.specs.Receiver.{storeSize, held, receiverGood}
-use Rattle.receiver.specs.declared.state.Receiver.{Receiver}
+use Rattle.receiver_state.specs.Receiver.{storeSize, held, receiverGood}
+use Rattle.receiver_state.specs.declared.Receiver.{Receiver}
 use Rattle.stored.specs.declared.restoring.Restored.{Restored}
 
 -- octets of a stored block, of those before its check, of the store in block 0 and in block 1, and the zeros that follow these

@@ -3,7 +3,7 @@ ghost use mathlib.Core.Path.{_≡_};
 ghost use mathlib.Core.Bool.{true};
 ghost use Prim.Native.Nat.{_<_};
 ghost use lib.ListN.{length, getD};
-ghost use Rattle.receiver.specs.Receiver.{storeSize, receiverGood};
+ghost use Rattle.receiver_state.specs.Receiver.{storeSize, receiverGood};
 ghost use Rattle.stored.specs.Stored.{storedBlock, zerosAt, zeroPart, receiverIn, storeIn, zerosFrom, clear, restoreNumber, restored, afterRestore};
 ghost use Rattle.stored.specs.Claims.{SavesBack};
 ghost use Rattle.stored.specs.Parts.{marked, checked, layoutKept};
@@ -15,8 +15,8 @@ use crate::saving::STORED_BLOCK;
 use crate::saving::ZEROS;
 use crate::saving::ZEROS_AT;
 use messages::message::BLOCK;
-use receiver::state::Receiver;
-use receiver::state::STORE;
+use receiver_state::Receiver;
+use receiver_state::STORE;
 use transactions::header::Transaction;
 
 // Number 0 and the receiver restored, or the number of the refusal and the receiver as it was.
@@ -152,7 +152,7 @@ fn layout_kept(a: &[u8], b: &[u8], rx: Receiver, store: [u8; STORE]) -> bool
     if !is_marked(a, b) {
         return false;
     }
-    if !receiver::state::is_good(rx) {
+    if !receiver_state::is_good(rx) {
         return false;
     }
     if !is_clear(rx, store) {
@@ -170,7 +170,7 @@ fn layout_kept(a: &[u8], b: &[u8], rx: Receiver, store: [u8; STORE]) -> bool
 fn number_of(rx: Receiver, form: &[u8], store: &[u8]) -> u8
     ensures { λ r. ⌜ r ≡ restoreNumber rx (now (form .entry)) (now (store .entry)) ⌝ }
 {
-    if !receiver::state::is_good(rx) {
+    if !receiver_state::is_good(rx) {
         return 1;
     }
     if store.len() != STORE {

@@ -11,8 +11,8 @@ ghost use Rattle.stored.specs.Stored.{storedBlock, checkedSize, heldOcte
 ghost use Rattle.stored.specs.Claims.{Savable, Restores};
 ghost use Rattle.stored.specs.Parts.{over};
 use messages::message::BLOCK;
-use receiver::state::Receiver;
-use receiver::state::STORE;
+use receiver_state::Receiver;
+use receiver_state::STORE;
 
 // Octets of a stored block, of a stored form, and of a block before its check.
 pub const STORED_BLOCK: usize = 512;
@@ -135,7 +135,7 @@ pub fn save(rx: Receiver, store: &[u8], s0: u8, s1: u8, form: &mut [u8]) -> u8
         × (now (form .exit) ≡ afterSave rx (now (store .entry)) s0 s1 (now (form .entry)))
         × (Savable rx (now (store .entry)) → Restores rx (now (store .entry)) s0 s1) ⌝ }
 {
-    if !receiver::state::is_good(rx) {
+    if !receiver_state::is_good(rx) {
         return 1;
     }
     if store.len() != STORE {

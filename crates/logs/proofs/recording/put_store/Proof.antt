@@ -3,7 +3,7 @@
 use mathlib.Core.Path.{refl}
 use Prim.Native.Nat.{_-_, _≤_}
 use native.Mathlib.Omega.{arith}
-use Rattle.receiver.specs.Receiver.{storeSize}
+use Rattle.receiver_state.specs.Receiver.{storeSize}
 use Rattle.logs.proofs.Lists.{Written, written-none, written-more, written-whole}
 use Rattle.logs.proofs.recording.put_store.Statement.{statement}
 use Rattle.logs.proofs.recording.put_store.Tie as tie

@@ -2,7 +2,7 @@
 -- Assumes nothing.
 use mathlib.Core.Path.{sym, ap, _∙_}
 use borrow.Author.Tests.{not-true, not-false}
-use Rattle.receiver.specs.declared.state.Receiver.{Receiver}
+use Rattle.receiver_state.specs.declared.Receiver.{Receiver}
 use Rattle.logs.specs.Log.{recordOf}
 use Rattle.logs.proofs.OneRecord.{bad-receiver, bad-store, bad-line, taken-tells}
 use borrow.Author.Needs.{needs}

@@ -6,7 +6,7 @@ use Prim.Native.Nat.{_+_}
 use lib.ListN.{length}
 use Rattle.messages.specs.declared.response.ResponseOctets.{ResponseOctets}
 use Rattle.transactions.specs.Answers.{responseSaid}
-use Rattle.receiver.specs.Receiver.{storeSize}
+use Rattle.receiver_state.specs.Receiver.{storeSize}
 use Rattle.history.specs.Run.{afterEvent, answerTo}
 use Rattle.logs.specs.Log.{answer, lineIn, lineOf, afterRecord}
 use Rattle.logs.proofs.OneRecord.{header-kind, block-kind, end-kind, restart-kind, no-kind}

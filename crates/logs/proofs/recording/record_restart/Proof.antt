@@ -5,7 +5,7 @@ use Prim.Native.Nat.{_-_}
 use native.Mathlib.Omega.{arith}
 use lib.ListN.{length, drop, length-drop}
 use lib.Seq.{take-all}
-use Rattle.receiver.specs.declared.state.Fresh.{Fresh}
+use Rattle.receiver_state.specs.declared.Fresh.{Fresh}
 use Rattle.stored.specs.declared.restoring.Restored.{Restored}
 use Rattle.history.specs.Run.{savedForm}
 use Rattle.logs.specs.Log.{codeOf, contentsOf, lineOctets, lineIn, lineOf}

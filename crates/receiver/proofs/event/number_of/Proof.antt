@@ -4,7 +4,7 @@ use mathlib.Core.Path.{_≡_, sym, _∙_}
 use mathlib.Core.Bool.{true, false}
 use borrow.Author.Needs.{needs}
 use borrow.Author.Tests.{not-true, not-false}
-use Rattle.receiver.specs.Receiver.{receiverGood}
+use Rattle.receiver_state.specs.Receiver.{receiverGood}
 use Rattle.receiver.proofs.BlockNumbers.{receiver-refused, store-refused, block-refused, phase-refused, serial-refused, octets-decide, block-fits}
 use Rattle.receiver.proofs.event.number_of.Statement.{statement}
 use Rattle.receiver.proofs.event.number_of.Tie as tie

@@ -7,7 +7,7 @@ use borrow.Author.Needs.{needs}
 use Rattle.codes.specs.Order.{every}
 use Rattle.transactions.specs.Transactions.{sameData}
 use Rattle.transactions.proofs.Order.{every-stops, every-goes}
-use Rattle.receiver.specs.Events.{blockAt}
+use Rattle.receiver_state.specs.Receiver.{blockAt}
 use Rattle.receiver.proofs.StoreBlocks.{sameAt, octet-same, octet-differs}
 use Rattle.receiver.proofs.event.same_block.Statement.{statement}
 use Rattle.receiver.proofs.event.same_block.Tie as tie

@@ -5,7 +5,7 @@ use mathlib.Core.Path.{_≡_, refl, sym, ap, _∙_}
 use native.Mathlib.Omega.{arith}
 use borrow.Author.Tests.{not-true, not-false}
 use borrow.Author.Needs.{needs}
-use Rattle.receiver.specs.Receiver.{storeSize}
+use Rattle.receiver_state.specs.Receiver.{storeSize}
 use Rattle.stored.proofs.StoreReading.{clearBy, clear-by, clear-none, clear-stop, clear-go, clear-held}
 use Rattle.stored.proofs.restoring.is_clear.Statement.{statement}
 use Rattle.stored.proofs.restoring.is_clear.Tie as tie

@@ -4,7 +4,7 @@ use Prim.Native.Nat.{_-_}
 use mathlib.Core.Path.{refl}
 use native.Mathlib.Omega.{arith}
 use borrow.Author.Needs.{needs}
-use Rattle.receiver.specs.Receiver.{storeSize}
+use Rattle.receiver_state.specs.Receiver.{storeSize}
 use Rattle.stored.proofs.Copying.{Copied, copied-start, anew-length, anew-more, anew-done}
 use Rattle.stored.proofs.restoring.put_store.Statement.{statement}
 use Rattle.stored.proofs.restoring.put_store.Tie as tie

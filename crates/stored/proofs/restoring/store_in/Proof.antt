@@ -5,7 +5,7 @@ use mathlib.Core.Path.{_≡_}
 use native.Mathlib.Omega.{arith}
 use borrow.Author.Needs.{needs}
 use lib.ListN.{length, length-replicate}
-use Rattle.receiver.specs.Receiver.{storeSize}
+use Rattle.receiver_state.specs.Receiver.{storeSize}
 use Rattle.stored.specs.Stored.{storeIn}
 use Rattle.stored.proofs.StoreReading.{length-storeIn}
 use Rattle.stored.proofs.Copying.{Copied, copied-start, anew-more, anew-done}

@@ -16,9 +16,9 @@ use Rattle.transactions.specs.Flags.{flagCount, flagged}
 use Rattle.transactions.specs.Transactions.{all}
 use Rattle.transactions.specs.declared.header.Transaction.{Transaction}
 use Rattle.transactions.proofs.Order.{all-fails}
-use Rattle.receiver.specs.Receiver.{freshReceiver, freshFor, allHeld, transactionGood, transactionNone, noneFrom, receiverGood}
-use Rattle.receiver.specs.declared.state.Receiver.{Receiver}
-use Rattle.receiver.specs.declared.state.Fresh.{Fresh}
+use Rattle.receiver_state.specs.Receiver.{freshReceiver, freshFor, allHeld, transactionGood, transactionNone, noneFrom, receiverGood}
+use Rattle.receiver_state.specs.declared.Receiver.{Receiver}
+use Rattle.receiver_state.specs.declared.Fresh.{Fresh}
 
 last : (s : Bool) → s ≡ cond s true false
 last true = refl

@@ -1,12 +1,12 @@
--- `receiver::state::is_good` meets its contract.
+-- `receiver_state::is_good` meets its contract.
 -- Assumes nothing.
 use mathlib.Core.Path.{sym, _∙_}
 use native.Mathlib.Omega.{arith}
 use borrow.Author.Needs.{needs}
 use borrow.Author.Tests.{not-true, not-false, lt-leb}
-use Rattle.receiver.proofs.Possible.{not-possible, open-decides, complete-decides, neither-decides}
-use Rattle.receiver.proofs.state.is_good.Statement.{statement}
-use Rattle.receiver.proofs.state.is_good.Tie as tie
+use Rattle.receiver_state.proofs.Possible.{not-possible, open-decides, complete-decides, neither-decides}
+use Rattle.receiver_state.proofs.is_good.Statement.{statement}
+use Rattle.receiver_state.proofs.is_good.Tie as tie
 
 fits-requires : tie.Need-fits-requires
 fits-requires c κs = search needs

@@ -3,7 +3,7 @@ ghost use mathlib.Core.Path.{_≡_};
 ghost use mathlib.Core.Bool.{cond};
 ghost use lib.Dec.{eqb};
 ghost use Rattle.transactions.specs.Flags.{flagCount};
-ghost use Rattle.receiver.specs.Receiver.{freshReceiver, freshFor, transactionGood, transactionNone, noneFrom, receiverGood};
+ghost use Rattle.receiver_state.specs.Receiver.{freshReceiver, freshFor, transactionGood, transactionNone, noneFrom, receiverGood};
 use addresses::RadioAddress;
 use messages::message::BLOCK;
 use messages::message::CHECK;

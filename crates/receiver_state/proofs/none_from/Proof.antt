@@ -1,4 +1,4 @@
--- `receiver::state::none_from` meets its contract.
+-- `receiver_state::none_from` meets its contract.
 -- Assumes nothing.
 use mathlib.Core.Path.{_≡_, sym, ap, _∙_}
 use Prim.Native.Nat.{ℕ}
@@ -7,10 +7,10 @@ use borrow.Author.Needs.{needs}
 use Rattle.codes.specs.Order.{every}
 use Rattle.transactions.specs.Flags.{flagCount}
 use Rattle.transactions.proofs.Order.{every-stops, every-goes}
-use Rattle.receiver.specs.Receiver.{noneFrom}
-use Rattle.receiver.proofs.Possible.{notPast, none-from, flag-below, flag-past}
-use Rattle.receiver.proofs.state.none_from.Statement.{statement}
-use Rattle.receiver.proofs.state.none_from.Tie as tie
+use Rattle.receiver_state.specs.Receiver.{noneFrom}
+use Rattle.receiver_state.proofs.Possible.{notPast, none-from, flag-below, flag-past}
+use Rattle.receiver_state.proofs.none_from.Statement.{statement}
+use Rattle.receiver_state.proofs.none_from.Tie as tie
 
 abbrev Inv-loop : tie.InvT-loop
 Inv-loop flags blocks n₀ n = noneFrom blocks flags flagCount ≡ every n (notPast flags blocks)
