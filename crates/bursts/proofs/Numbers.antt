@@ -10,15 +10,16 @@ use borrow.Author.Tests.{eq-eqb, ne-eqb, eqb-true, lt-ltb, le-ltb}
 use Rattle.polynomials.specs.Bits.{octetBit}
 use Rattle.polynomials.proofs.Runs.{followed-bits, number-lt, octetBit-bits}
 use Rattle.codes.specs.Order.{firstFailed}
-use Rattle.codes.specs.SlotWord.{readSlotType}
+use Rattle.codes.specs.SlotWord.{readSlotType, slotNumber}
 use Rattle.codes.specs.Field.{readField}
 use Rattle.codes.specs.declared.block_field.BlockField.{BlockField}
 use Rattle.codes.specs.declared.slot_type.SlotType.the-variants.{Data, TooWide}
 use Rattle.codes.proofs.SlotReading.{corrects}
-use Rattle.bursts.specs.Bursts.{kindOf, known, slotBits, fieldOf, slotData, slotGood, burstSlot, burstField, colourOf, typeOf, burstTests, burstNumber, refusedBurst, readBurst, partTests, writtenBurst, writeBurst}
+use Rattle.bursts.specs.Bursts.{kindOf, known, slotBits, fieldOf, slotData, burstSlot, burstField, colourOf, typeOf, burstNumber, refusedBurst, readBurst, partTests, writtenBurst, writeBurst}
 use Rattle.bursts.specs.Parts.{Typed}
 use Rattle.bursts.specs.BurstClaims.{Near}
 use Rattle.bursts.specs.declared.burst.Sync.{Sync}
+use Rattle.bursts.proofs.Variants.{slotGood}
 
 -- ---- reading
 
@@ -51,16 +52,16 @@ module _ (b : List ℕ) where
   -- the tests, in their order
 
   pub number-size : (length b ≡ 33 → ⊥) → burstNumber b ≡ 1
-  unfolding burstNumber burstTests firstFailed
+  unfolding burstNumber firstFailed
   number-size h = rw (ne-eqb (length b) 33 h)
 
   pub number-slot : length b ≡ 33 → slotGood (burstSlot b) ≡ false → burstNumber b ≡ 4
-  unfolding burstNumber burstTests firstFailed
+  unfolding burstNumber firstFailed
   number-slot h s = rw (eq-eqb (length b) 33 h, s)
 
   module _ (d : ℕ) (h : length b ≡ 33) (s : burstSlot b ≡ Data d) where
     good : slotGood (burstSlot b) ≡ true
-    unfolding slotGood
+    unfolding slotNumber
     good = ap slotGood s
 
     type-read : typeOf b ≡ d % 16
@@ -68,11 +69,11 @@ module _ (b : List ℕ) where
     type-read = ap (λ x. slotData x % 16) s
 
     pub number-type : known (kindOf (d % 16)) ≡ false → burstNumber b ≡ 5
-    unfolding burstNumber burstTests firstFailed
+    unfolding burstNumber firstFailed
     number-type k = rw (eq-eqb (length b) 33 h, good, type-read, k)
 
     pub number-field : known (kindOf (d % 16)) ≡ true → burstNumber b ≡ burstField b .number
-    unfolding burstNumber burstTests firstFailed
+    unfolding burstNumber firstFailed
     number-field k = rw (eq-eqb (length b) 33 h, good, type-read, k) (go (burstField b .number) (eqb (burstField b .number) 0) refl)
       where
         go : (n : ℕ) (t : Bool) → eqb n 0 ≡ t → cond t 0 n ≡ n

@@ -18,7 +18,8 @@ use Rattle.codes.specs.Field.{plainAt, information, product, plain, sentBits, s
 use Rattle.codes.proofs.SlotWords.{slotWord-lt}
 use Rattle.codes.proofs.FieldReading.{information-bits, plain-bits, corrects-field, field-back}
 use Rattle.codes.proofs.Product.{product-bits}
-use Rattle.bursts.specs.Bursts.{kindOf, known, slotBits, fieldRun, fieldOf, readBurst, syncWord, burstBits, writtenBurst}
+use Rattle.bursts.specs.Bursts.{kindOf, known, slotBits, fieldOf, readBurst, syncWord, burstBits, writtenBurst}
+use Rattle.bursts.specs.Parts.{fieldRun}
 use Rattle.bursts.specs.declared.burst.Burst.{Burst}
 use Rattle.bursts.specs.declared.burst.Sync.{Sync}
 use Rattle.bursts.proofs.RunParts.{number-octets, octetBit-past, length-octets}

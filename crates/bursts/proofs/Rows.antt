@@ -11,14 +11,15 @@ use lib.Dec.{lit<}
 use lib.ListN.{length}
 use borrow.Author.Tests.{eq-eqb}
 use Rattle.codes.specs.Order.{firstFailed}
-use Rattle.codes.specs.SlotWord.{readSlotType}
+use Rattle.codes.specs.SlotWord.{readSlotType, slotNumber}
 use Rattle.codes.specs.Field.{correctedField, rowsGood, columnsGood, reservedClear, matrixTests, fieldNumber, readField}
 use Rattle.codes.specs.declared.slot_type.SlotType.{SlotType}
 use Rattle.codes.specs.declared.slot_type.SlotType.the-variants.{Data, NoCodeword, TooWide}
 use Rattle.codes.proofs.SlotReading.{reads-near}
-use Rattle.bursts.specs.Bursts.{kindOf, known, slotBits, fieldOf, slotGood, readBurst, writeBurst}
+use Rattle.bursts.specs.Bursts.{kindOf, known, slotBits, fieldOf, readBurst, writeBurst}
 use Rattle.bursts.specs.BurstClaims.{Near, Untyped, OtherType, FieldGives}
 use Rattle.bursts.specs.declared.burst.Sync.{Sync}
+use Rattle.bursts.proofs.Variants.{slotGood}
 use Rattle.bursts.proofs.Numbers.{slot-read, near-slot, field-read, number-size, number-slot, number-type, number-field, read-number, write-wide, write-other, write-good}
 use Rattle.bursts.proofs.ReadingBack.{field-length}
 
@@ -52,7 +53,7 @@ module _ (b : List ℕ) where
   one-rule h = read-number b ∙ number-size b h
 
   four-rule : Untyped b → readBurst b .number ≡ 4
-  unfolding slotGood
+  unfolding slotNumber
   four-rule u = read-number b ∙ number-slot b (u .0) (ap slotGood (sym (slot-read b (u .0))) ∙ go (readSlotType (slotBits b)) refl)
     where
       go : (s : SlotType) → readSlotType (slotBits b) ≡ s → slotGood s ≡ false
@@ -127,7 +128,7 @@ module _ (b : List ℕ) where
 
   -- no codeword is near where the slot type is refused
   untyped : length b ≡ 33 → slotGood (readSlotType (slotBits b)) ≡ false → Untyped b
-  unfolding slotGood
+  unfolding slotNumber
   untyped h e = (h, none)
     where
       none : (d : ℕ) → Near b d → ⊥
@@ -140,7 +141,7 @@ module _ (b : List ℕ) where
   untyped-says u = subst Says (sym (four-rule u)) (four-says u)
 
   slot-says : length b ≡ 33 → (s : SlotType) → readSlotType (slotBits b) ≡ s → Says (readBurst b .number)
-  unfolding slotGood
+  unfolding slotNumber
   slot-says h (Data d) e = let n = reads-near (slotBits b) d e in typed-says d h (n .0, n .2) (known (kindOf (d % 16))) refl
   slot-says h NoCodeword e = untyped-says (untyped h (ap slotGood e))
   slot-says h TooWide e = untyped-says (untyped h (ap slotGood e))

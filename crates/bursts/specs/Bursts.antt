@@ -8,7 +8,7 @@ use lib.Dec.{eqb, ltb}
 use lib.ListN.{length, replicate}
 use Rattle.polynomials.specs.Bits.{digits, octetBit, followed, number, octets}
 use Rattle.codes.specs.Order.{firstFailed}
-use Rattle.codes.specs.SlotWord.{slotWord, readSlotType}
+use Rattle.codes.specs.SlotWord.{slotWord, readSlotType, slotNumber}
 use Rattle.codes.specs.Field.{writtenField, readField}
 use Rattle.codes.specs.declared.block_field.BlockField.{BlockField}
 use Rattle.codes.specs.declared.slot_type.SlotType.{SlotType}
@@ -35,23 +35,15 @@ known Other = false
 unfoldable pub slotBits : List ℕ → ℕ
 slotBits b = number (followed 10 (λ p. octetBit b (98 + p)) (λ p. octetBit b (156 + p))) 0 20
 
--- the bits of the block field, and the field in 25 octets
-abbrev pub fieldRun : List ℕ → ℕ → ℕ
-fieldRun b = followed 98 (octetBit b) (λ p. octetBit b (166 + p))
-
+-- the block field in 25 octets
 unfoldable pub fieldOf : List ℕ → List ℕ
-fieldOf b = octets 25 (fieldRun b)
+fieldOf b = octets 25 (followed 98 (octetBit b) (λ p. octetBit b (166 + p)))
 
--- the data octet of a slot type, and whether there is one
+-- the data octet of a slot type
 unfoldable pub slotData : SlotType → ℕ
 slotData (Data d) = d
 slotData NoCodeword = 0
 slotData TooWide = 0
-
-unfoldable pub slotGood : SlotType → Bool
-slotGood (Data d) = true
-slotGood NoCodeword = false
-slotGood TooWide = false
 
 -- the slot type of a burst, and what its block field reads as; octets of another size have neither
 unfoldable pub burstSlot : List ℕ → SlotType
@@ -68,14 +60,12 @@ abbrev pub typeOf : List ℕ → ℕ
 typeOf b = slotData (burstSlot b) % 16
 
 -- the order of checks: size, slot type, data type, and the block field's
-unfoldable pub burstTests : List ℕ → List (Bool × ℕ)
-burstTests b =
-    (eqb (length b) 33, 1) ∷ (slotGood (burstSlot b), 4) ∷ (known (kindOf (typeOf b)), 5) ∷ (eqb (burstField b .number) 0, burstField b .number) ∷ []
+unfoldable pub burstNumber : List ℕ → ℕ
+burstNumber b =
+    firstFailed ((eqb (length b) 33, 1) ∷ (eqb (slotNumber (burstSlot b)) 0, 4) ∷ (known (kindOf (typeOf b)), 5)
+    ∷ (eqb (burstField b .number) 0, burstField b .number) ∷ [])
 
 -- what a burst reads as; zeros beside the number of a refusal
-unfoldable pub burstNumber : List ℕ → ℕ
-burstNumber b = firstFailed (burstTests b)
-
 abbrev pub refusedBurst : ℕ → Burst
 refusedBurst n = record { number = n; colour = 0; datatype = 0; info = replicate 12 0 }
 

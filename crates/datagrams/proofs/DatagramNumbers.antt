@@ -11,11 +11,13 @@ use lib.Seq.{take-all}
 use borrow.Author.Tests.{eq-eqb, ne-eqb, eqb-true}
 use Rattle.addresses.specs.Octets.{addressAt, numberAt}
 use Rattle.codes.specs.Order.{firstFailed}
+use Rattle.codes.specs.SlotWord.{slotNumber}
 use Rattle.codes.specs.declared.block_field.BlockField.{BlockField}
 use Rattle.codes.proofs.Tests.{not-true, every-true, all-eq}
-use Rattle.bursts.specs.Bursts.{kindOf, known, slotData, slotGood, burstSlot, burstField, colourOf, typeOf}
-use Rattle.datagrams.specs.Datagrams.{prefix, prefixed, timeslotOf, callOf, frameOf, namedType, burstOf, datagramTests, datagramNumber, labelsOf, refusedDatagram, readDatagram}
+use Rattle.bursts.specs.Bursts.{kindOf, known, slotData, burstSlot, burstField, colourOf, typeOf}
+use Rattle.datagrams.specs.Datagrams.{prefix, prefixed, frameOf, namedType, burstOf, datagramNumber, labelsOf, refusedDatagram, readDatagram}
 use Rattle.datagrams.specs.DatagramParts.{Slotted, Kinded}
+use Rattle.bursts.proofs.Variants.{slotGood}
 
 module _ (d : List ℕ) where
   -- the octets from 20 on are the burst
@@ -38,25 +40,25 @@ module _ (d : List ℕ) where
   -- ---- the tests, in their order
 
   pub number-size : (length d ≡ 53 → ⊥) → datagramNumber d ≡ 1
-  unfolding datagramNumber datagramTests firstFailed
+  unfolding datagramNumber firstFailed
   number-size h = rw (ne-eqb (length d) 53 h)
 
   pub number-prefix : length d ≡ 53 → prefixed d ≡ false → datagramNumber d ≡ 2
-  unfolding datagramNumber datagramTests firstFailed
+  unfolding datagramNumber firstFailed
   number-prefix h p = rw (eq-eqb (length d) 53 h, p)
 
   module _ (h : length d ≡ 53) (p : prefixed d ≡ true) where
     pub number-frame : (frameOf d ≡ 2 → ⊥) → datagramNumber d ≡ 3
-    unfolding datagramNumber datagramTests firstFailed
+    unfolding datagramNumber firstFailed
     number-frame f = rw (eq-eqb (length d) 53 h, p, ne-eqb (frameOf d) 2 f)
 
     pub number-slot : frameOf d ≡ 2 → slotGood (burstSlot (burstOf d)) ≡ false → datagramNumber d ≡ 4
-    unfolding datagramNumber datagramTests firstFailed
+    unfolding datagramNumber firstFailed
     number-slot f s = rw (eq-eqb (length d) 53 h, p, eq-eqb (frameOf d) 2 f, s)
 
   module _ (s : ℕ) (h : Slotted d s) where
     good : slotGood (burstSlot (burstOf d)) ≡ true
-    unfolding slotGood
+    unfolding slotNumber
     good = ap slotGood (h .slot)
 
     pub type-read : typeOf (burstOf d) ≡ s % 16
@@ -64,7 +66,7 @@ module _ (d : List ℕ) where
     type-read = ap (λ x. slotData x % 16) (h .slot)
 
     pub number-differs : (namedType d ≡ s % 16 → ⊥) → datagramNumber d ≡ 5
-    unfolding datagramNumber datagramTests firstFailed
+    unfolding datagramNumber firstFailed
     number-differs n =
         rw (eq-eqb (length d) 53 (h .size), h .letters, eq-eqb (frameOf d) 2 (h .frame), good, ne-eqb (namedType d) (typeOf (burstOf d)) (λ e. n (e ∙ type-read)))
 
@@ -73,11 +75,11 @@ module _ (d : List ℕ) where
       equal = eq-eqb (namedType d) (typeOf (burstOf d)) (same ∙ sym type-read)
 
       pub number-other : known (kindOf (namedType d)) ≡ false → datagramNumber d ≡ 5
-      unfolding datagramNumber datagramTests firstFailed
+      unfolding datagramNumber firstFailed
       number-other k = rw (eq-eqb (length d) 53 (h .size), h .letters, eq-eqb (frameOf d) 2 (h .frame), good, equal, k)
 
       pub number-field : known (kindOf (namedType d)) ≡ true → datagramNumber d ≡ burstField (burstOf d) .number
-      unfolding datagramNumber datagramTests firstFailed
+      unfolding datagramNumber firstFailed
       number-field k =
           rw (eq-eqb (length d) 53 (h .size), h .letters, eq-eqb (frameOf d) 2 (h .frame), good, equal, k)
           (go (burstField (burstOf d) .number) (eqb (burstField (burstOf d) .number) 0) refl)
@@ -122,8 +124,8 @@ module _ (d : List ℕ) where
         source = record { 0 = source };
         target = record { 0 = target };
         repeater = record { 0 = repeater };
-        timeslot = timeslotOf d;
-        call = callOf d;
+        timeslot = getD d 15 0 / 128;
+        call = getD d 15 0 / 64 % 2;
         stream = stream;
       } ≡ labelsOf d
   unfolding labelsOf

@@ -12,19 +12,20 @@ use lib.ListN.{length, getD, take, length-drop}
 use lib.Seq.{length-take-le, getD-take, ext-getD}
 use borrow.Author.Tests.{eq-eqb, lt-ltb}
 use Rattle.codes.specs.Order.{firstFailed}
-use Rattle.codes.specs.SlotWord.{readSlotType}
+use Rattle.codes.specs.SlotWord.{readSlotType, slotNumber}
 use Rattle.codes.specs.Field.{correctedField, rowsGood, columnsGood, reservedClear, matrixTests, fieldNumber, readField}
 use Rattle.codes.specs.declared.slot_type.SlotType.{SlotType}
 use Rattle.codes.specs.declared.slot_type.SlotType.the-variants.{Data, NoCodeword, TooWide}
 use Rattle.codes.proofs.SlotReading.{reads-near}
 use Rattle.codes.proofs.Tests.{choose, cond-lt, cond-ge, not-true}
-use Rattle.bursts.specs.Bursts.{kindOf, known, slotBits, fieldOf, slotGood, partTests, writtenBurst}
+use Rattle.bursts.specs.Bursts.{kindOf, known, slotBits, fieldOf, partTests, writtenBurst}
 use Rattle.bursts.specs.BurstClaims.{Near}
 use Rattle.datagrams.specs.Datagrams.{prefix, prefixed, frameOf, namedType, burstOf, datagramNumber, readDatagram, writtenDatagram, labelTests, writeNumber, writeDatagram}
 use Rattle.datagrams.specs.DatagramClaims.{Fits, Unprefixed, OtherFrame, Framed, NoSlotType, WrongType, FieldOf, Outside}
 use Rattle.datagrams.specs.DatagramParts.{Slotted}
 use Rattle.bursts.specs.declared.burst.Sync.{Sync}
 use Rattle.datagrams.specs.declared.Labels.{Labels}
+use Rattle.bursts.proofs.Variants.{slotGood}
 use Rattle.bursts.proofs.Numbers.{slot-read, near-slot, field-read, write-good}
 use Rattle.bursts.proofs.ReadingBack.{field-length}
 use Rattle.datagrams.proofs.DatagramNumbers.{letters-same, letters-at, number-size, number-prefix, number-frame, number-slot, number-differs, number-other, number-field, read-number}
@@ -84,7 +85,7 @@ module _ (d : List ℕ) where
   three-rule (h, p, f) = read-number d ∙ number-frame d h (take-letters p) f
 
   four-rule : NoSlotType d → readDatagram d .number ≡ 4
-  unfolding slotGood
+  unfolding slotNumber
   four-rule ((h, p, f), none) =
       read-number d
       ∙ number-slot d h (take-letters p) f (ap slotGood (sym (slot-read (burstOf d) (burst-size h))) ∙ go (readSlotType (slotBits (burstOf d))) refl)
@@ -206,7 +207,7 @@ module _ (d : List ℕ) where
   type-says s framed near (no n) = wrong-says (framed, s, near, inl n)
 
   unslotted : Framed d → slotGood (readSlotType (slotBits (burstOf d))) ≡ false → NoSlotType d
-  unfolding slotGood
+  unfolding slotNumber
   unslotted (h, p, f) e =
       ((h, p, f), λ s near. let r : slotGood (readSlotType (slotBits (burstOf d))) ≡ true = ap slotGood (slot-read (burstOf d) (burst-size h) ∙ near-slot (burstOf d) s (burst-size h) near) in let z : _≡_ {A = ℕ} 0 1 = cc in omega arith)
 
@@ -214,7 +215,7 @@ module _ (d : List ℕ) where
   unslotted-says u = subst Says (sym (four-rule u)) (four-says u)
 
   slot-says : Framed d → (s : SlotType) → readSlotType (slotBits (burstOf d)) ≡ s → Says (readDatagram d .number)
-  unfolding slotGood
+  unfolding slotNumber
   slot-says framed (Data s) e =
       let n = reads-near (slotBits (burstOf d)) s e in
       type-says s framed (n .0, n .2) (ℕ-discrete (namedType d) (s % 16))

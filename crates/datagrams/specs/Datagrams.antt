@@ -8,7 +8,8 @@ use lib.Dec.{eqb, ltb}
 use lib.ListN.{length, getD, drop, replicate}
 use Rattle.addresses.specs.Octets.{addressAt, threeOctets, fourOctets, numberAt}
 use Rattle.codes.specs.Order.{every, firstFailed}
-use Rattle.bursts.specs.Bursts.{kindOf, known, slotGood, burstSlot, burstField, colourOf, typeOf, writtenBurst, partTests}
+use Rattle.codes.specs.SlotWord.{slotNumber}
+use Rattle.bursts.specs.Bursts.{kindOf, known, burstSlot, burstField, colourOf, typeOf, writtenBurst, partTests}
 use Rattle.bursts.specs.declared.burst.Sync.{Sync}
 use Rattle.datagrams.specs.declared.Datagram.{Datagram}
 use Rattle.datagrams.specs.declared.DatagramOctets.{DatagramOctets}
@@ -24,13 +25,7 @@ nextSequence n = (n + 1) % 256
 
 -- ---- reading
 
--- octet 15: timeslot, call type, frame type, data type
-abbrev pub timeslotOf : List ℕ → ℕ
-timeslotOf d = getD d 15 0 / 128
-
-abbrev pub callOf : List ℕ → ℕ
-callOf d = getD d 15 0 / 64 % 2
-
+-- of octet 15: frame type, data type
 abbrev pub frameOf : List ℕ → ℕ
 frameOf d = getD d 15 0 / 16 % 4
 
@@ -45,14 +40,11 @@ unfoldable pub prefixed : List ℕ → Bool
 prefixed d = every 4 (λ i. eqb (getD d i 0) (getD prefix i 0))
 
 -- the order of checks: size, prefix, frame type, slot type, data type, and the block field's
-unfoldable pub datagramTests : List ℕ → List (Bool × ℕ)
-datagramTests d =
-    (eqb (length d) 53, 1) ∷ (prefixed d, 2) ∷ (eqb (frameOf d) 2, 3)
-    ∷ (slotGood (burstSlot (burstOf d)), 4) ∷ (eqb (namedType d) (typeOf (burstOf d)), 5) ∷ (known (kindOf (namedType d)), 5)
-    ∷ (eqb (burstField (burstOf d) .number) 0, burstField (burstOf d) .number) ∷ []
-
 unfoldable pub datagramNumber : List ℕ → ℕ
-datagramNumber d = firstFailed (datagramTests d)
+datagramNumber d =
+    firstFailed ((eqb (length d) 53, 1) ∷ (prefixed d, 2) ∷ (eqb (frameOf d) 2, 3) ∷ (eqb (slotNumber (burstSlot (burstOf d))) 0, 4)
+    ∷ (eqb (namedType d) (typeOf (burstOf d)), 5) ∷ (known (kindOf (namedType d)), 5)
+    ∷ (eqb (burstField (burstOf d) .number) 0, burstField (burstOf d) .number) ∷ [])
 
 -- what stands before the burst, but for the data type
 unfoldable pub labelsOf : List ℕ → Labels
@@ -61,8 +53,8 @@ labelsOf d = record {
   source = addressAt d 5;
   target = addressAt d 8;
   repeater = record { 0 = numberAt d 11 };
-  timeslot = timeslotOf d;
-  call = callOf d;
+  timeslot = getD d 15 0 / 128;
+  call = getD d 15 0 / 64 % 2;
   stream = numberAt d 16;
 }
 

@@ -1,23 +1,25 @@
 -- A header that is written: 12 octets, which read back.
 -- Assumes nothing.
-use mathlib.Core.Path.{_≡_, refl, sym, ap, _∙_}
+use mathlib.Core.Path.{_≡_, refl, sym, ap, subst, _∙_}
 use mathlib.Core.Bool.{true}
 use mathlib.Core.List.{List}
 use Prim.Native.Nat.{ℕ, _+_, _*_, _/_, _%_, _<_}
 use native.Mathlib.Omega.{arith}
 use lib.Dec.{lit<}
 use lib.ListN.{length, getD}
+use Rattle.codes.specs.Order.{firstFailed}
 use Rattle.checks.specs.Checks.{headerGood}
 use Rattle.checks.proofs.HeaderChecks.{headerCheck-lt, header-carried}
-use Rattle.packets.specs.Headers.{headerMask, part, commonOf, formatOf, headerOf, readHeader, knownFormat, formatNumber, commonFields, lastOctet, headerBody, withCheck, writtenHeader, commonWidths, lastWidths, widthNumber}
-use Rattle.packets.specs.Parts.{CommonWithin, LastWithin}
+use Rattle.packets.specs.Headers.{headerMask, part, commonOf, formatOf, headerOf, readHeader, knownFormat, headerBody, withCheck, writtenHeader, commonWidths, widths, widthNumber}
+use Rattle.packets.specs.Parts.{formatNumber, commonFields, lastOctet, lastWidths, CommonWithin, LastWithin}
 use Rattle.packets.specs.declared.header.Common.{Common}
 use Rattle.packets.specs.declared.header.Header.{Header}
 use Rattle.packets.specs.declared.header.Header.the-variants.{Response, Unconfirmed, Confirmed}
 use Rattle.packets.specs.declared.header.HeaderAnswer.the-variants.{Accepted}
 use Rattle.packets.proofs.Octets.{all-octets}
 use Rattle.packets.proofs.Widths.{first-run, run-passed}
-use Rattle.packets.proofs.HeaderWriting.{common-within, last-within, format-known}
+use Rattle.packets.proofs.HeaderParts.{written-is}
+use Rattle.packets.proofs.HeaderWriting.{common-within, last-within, format-known, number-parts}
 use Rattle.packets.proofs.HeaderReading.{accepted, format-1, format-2, format-3}
 
 module _ (format : ℕ) (c : Common) (last : ℕ) where
@@ -92,37 +94,35 @@ format-named (Unconfirmed c x) = refl
 format-named (Confirmed c x y z) = refl
 
 pub written-length : (h : Header) → length (writtenHeader h) ≡ 12
-unfolding writtenHeader
-written-length h = size (formatNumber h) (commonFields h) (lastOctet h)
+written-length h = ap length (written-is h) ∙ size (formatNumber h) (commonFields h) (lastOctet h)
 
 pub written-good : (h : Header) → headerGood headerMask (writtenHeader h) ≡ true
-unfolding writtenHeader
-written-good h = good (formatNumber h) (commonFields h) (lastOctet h)
+written-good h = ap (headerGood headerMask) (written-is h) ∙ good (formatNumber h) (commonFields h) (lastOctet h)
 
 pub written-format : (h : Header) → formatOf (writtenHeader h) ≡ formatNumber h
-unfolding writtenHeader
-written-format h = format-back (formatNumber h) (commonFields h) (lastOctet h) (omega (arith, format-known h))
+written-format h = ap formatOf (written-is h) ∙ format-back (formatNumber h) (commonFields h) (lastOctet h) (omega (arith, format-known h))
 
 pub written-last : (h : Header) → getD (writtenHeader h) 9 0 ≡ lastOctet h
-unfolding writtenHeader
-written-last h = last-back (formatNumber h) (commonFields h) (lastOctet h)
+written-last h = ap (λ (os : List ℕ). getD os 9 0) (written-is h) ∙ last-back (formatNumber h) (commonFields h) (lastOctet h)
 
 module _ (h : Header) (w : widthNumber h ≡ 0) where
+  common-passed : firstFailed (widths (commonWidths (commonFields h))) ≡ 0
+  common-passed = run-passed (lastWidths h) (commonWidths (commonFields h)) (sym (number-parts h) ∙ w)
+
   pub common-fits : CommonWithin (commonFields h)
-  unfolding widthNumber
-  common-fits = common-within (commonFields h) (run-passed (lastWidths h) (commonWidths (commonFields h)) w)
+  common-fits = common-within (commonFields h) common-passed
 
   pub last-fits : LastWithin h
-  unfolding widthNumber
-  last-fits = last-within h (sym (first-run (lastWidths h) (commonWidths (commonFields h)) (run-passed (lastWidths h) (commonWidths (commonFields h)) w)) ∙ w)
+  last-fits = last-within h (sym (first-run (lastWidths h) (commonWidths (commonFields h)) common-passed) ∙ sym (number-parts h) ∙ w)
 
   pub written-common : commonOf (writtenHeader h) ≡ commonFields h
-  unfolding writtenHeader
-  written-common = common-back (formatNumber h) (commonFields h) (lastOctet h) (omega (arith, format-known h)) common-fits
+  written-common =
+      ap commonOf (written-is h) ∙ common-back (formatNumber h) (commonFields h) (lastOctet h) (omega (arith, format-known h)) common-fits
 
   pub written-octets : (i : ℕ) → getD (writtenHeader h) i 0 < 256
-  unfolding writtenHeader
-  written-octets = octets-below (formatNumber h) (commonFields h) (lastOctet h) (omega (arith, format-known h)) common-fits (last-below h last-fits)
+  written-octets i =
+      subst (λ (os : List ℕ). getD os i 0 < 256) (sym (written-is h))
+      (octets-below (formatNumber h) (commonFields h) (lastOctet h) (omega (arith, format-known h)) common-fits (last-below h last-fits) i)
 
   pub reads-back : readHeader (writtenHeader h) ≡ Accepted h
   reads-back =

@@ -1,7 +1,7 @@
 -- What is written of a header: by the widths of its fields.
 -- Assumes nothing.
 use mathlib.Core.Path.{_≡_, refl, sym, ap, _∙_}
-use mathlib.Core.Bool.{true, false}
+use mathlib.Core.Bool.{Bool, true, false}
 use mathlib.Core.List.{List, [], _∷_, _++_}
 use Prim.Native.Nat.{ℕ, _+_, _*_, _/_, _%_, _^_, _<_}
 use native.Mathlib.Omega.{arith}
@@ -11,11 +11,12 @@ use lib.ListN.{getD, replicate}
 use Rattle.addresses.specs.Octets.{threeOctets}
 use Rattle.checks.specs.Checks.{headerCheck}
 use Rattle.codes.specs.Order.{firstFailed}
-use Rattle.packets.specs.Headers.{headerMask, formatNumber, commonFields, lastOctet, headerBody, withCheck, writtenHeader, commonWidths, lastWidths, widths, widthNumber, writeHeader}
-use Rattle.packets.specs.Parts.{CommonWithin, LastWithin}
+use Rattle.packets.specs.Headers.{headerMask, headerBody, withCheck, writtenHeader, commonWidths, headerWidths, widths, widthNumber, writeHeader}
+use Rattle.packets.specs.Parts.{formatNumber, commonFields, lastOctet, lastWidths, CommonWithin, LastWithin}
 use Rattle.packets.specs.declared.header.Common.{Common}
 use Rattle.packets.specs.declared.header.Header.{Header}
 use Rattle.packets.specs.declared.header.Header.the-variants.{Response, Unconfirmed, Confirmed}
+use Rattle.packets.proofs.HeaderParts.{written-is, widths-are}
 use Rattle.packets.proofs.Widths.{passed, one-fails, last-decides, each-passed, first-run, run-fails, none-but-16}
 
 pub common-within : (c : Common) → firstFailed (widths (commonWidths c)) ≡ 0 → CommonWithin c
@@ -88,23 +89,27 @@ module _ (h : Header) where
   -- there is no third number
   pub widths-else : (widthNumber h ≡ 0 → ⊥) → widthNumber h ≡ 16
   unfolding widthNumber
-  widths-else n = none-but-16 (commonWidths (commonFields h) ++ lastWidths h) (ne-eqb _ 0 n)
+  widths-else n = none-but-16 (headerWidths h) (ne-eqb _ 0 n)
 
   pub written-parts : (format : ℕ) (c : Common) (last : ℕ) (os : List ℕ) → widthNumber h ≡ 0 → format ≡ formatNumber h → c ≡ commonFields h
       → last ≡ lastOctet h → os ≡ withCheck (headerBody format c last) → record { number = 0; octets = os } ≡ writeHeader h
-  unfolding writtenHeader
-  written-parts format c last os w f s l e = (λ i. record { number = 0; octets = e i }) ∙ (λ i. record { number = 0; octets = withCheck (headerBody (f i) (s i) (l i)) }) ∙ number-within w
+  written-parts format c last os w f s l e =
+      let written : os ≡ writtenHeader h = e ∙ (λ i. withCheck (headerBody (f i) (s i) (l i))) ∙ sym (written-is h) in
+      (λ i. record { number = 0; octets = written i }) ∙ number-within w
+
+  -- the tests of what all formats have stand before those of octet 9
+  pub number-parts : widthNumber h ≡ firstFailed (widths (commonWidths (commonFields h) ++ lastWidths h))
+  unfolding widthNumber
+  number-parts = ap (λ (ts : List Bool). firstFailed (widths ts)) (widths-are h)
 
   -- c is what all formats have
   module _ (c : Common) (same : c ≡ commonFields h) where
     pub common-wide : passed (commonWidths c) ≡ false → widthNumber h ≡ 16
-    unfolding widthNumber
-    common-wide e = run-fails (lastWidths h) (commonWidths (commonFields h)) (rw same at e)
+    common-wide e = number-parts ∙ run-fails (lastWidths h) (commonWidths (commonFields h)) (rw same at e)
 
     module _ (common : passed (commonWidths c) ≡ true) where
       first : widthNumber h ≡ firstFailed (widths (lastWidths h))
-      unfolding widthNumber
-      first = first-run (lastWidths h) (commonWidths (commonFields h)) (eqb-true _ 0 (rw same at common))
+      first = number-parts ∙ first-run (lastWidths h) (commonWidths (commonFields h)) (eqb-true _ 0 (rw same at common))
 
       pub last-wide : passed (lastWidths h) ≡ false → widthNumber h ≡ 16
       last-wide e = first ∙ none-but-16 (lastWidths h) e

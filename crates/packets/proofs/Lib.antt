@@ -1,5 +1,6 @@
 pub mod Widths
 pub mod HeaderReading
+pub mod HeaderParts
 pub mod HeaderWriting
 pub mod BlockReading
 pub mod BlockWriting

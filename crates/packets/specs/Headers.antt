@@ -67,21 +67,6 @@ headerNumber (Refused n) = n
 
 -- ---- writing
 
-abbrev pub formatNumber : Header → ℕ
-formatNumber (Response c class type status) = 1
-formatNumber (Unconfirmed c fsn) = 2
-formatNumber (Confirmed c s ns fsn) = 3
-
-abbrev pub commonFields : Header → Common
-commonFields (Response c class type status) = c
-commonFields (Unconfirmed c fsn) = c
-commonFields (Confirmed c s ns fsn) = c
-
-abbrev pub lastOctet : Header → ℕ
-lastOctet (Response c class type status) = 64 * class + 8 * type + status
-lastOctet (Unconfirmed c fsn) = fsn
-lastOctet (Confirmed c s ns fsn) = 128 * s + 16 * ns + fsn
-
 -- octets 0 to 9 of a format, the fields that all formats have and the last of the ten; reserved bits 0
 unfoldable pub headerBody : ℕ → Common → ℕ → List ℕ
 headerBody format c last =
@@ -95,7 +80,9 @@ withCheck os =
     os ++ (c / 256 ∷ c % 256 ∷ [])
 
 unfoldable pub writtenHeader : Header → List ℕ
-writtenHeader h = withCheck (headerBody (formatNumber h) (commonFields h) (lastOctet h))
+writtenHeader (Response c class type status) = withCheck (headerBody 1 c (64 * class + 8 * type + status))
+writtenHeader (Unconfirmed c fsn) = withCheck (headerBody 2 c fsn)
+writtenHeader (Confirmed c s ns fsn) = withCheck (headerBody 3 c (128 * s + 16 * ns + fsn))
 
 -- each field within its width
 unfoldable pub commonWidths : Common → List Bool
@@ -103,10 +90,10 @@ commonWidths c =
     ltb (c .group) 2 ∷ ltb (c .requested) 2 ∷ ltb (c .pad) 32 ∷ ltb (c .sap) 16 ∷ ltb (c .destination .0) (2 ^ 24) ∷ ltb (c .source .0) (2 ^ 24)
     ∷ ltb (c .full) 2 ∷ ltb (c .blocks) 128 ∷ []
 
-unfoldable pub lastWidths : Header → List Bool
-lastWidths (Response c class type status) = ltb class 4 ∷ ltb type 8 ∷ ltb status 8 ∷ []
-lastWidths (Unconfirmed c fsn) = ltb fsn 16 ∷ []
-lastWidths (Confirmed c s ns fsn) = ltb s 2 ∷ ltb ns 8 ∷ ltb fsn 16 ∷ []
+unfoldable pub headerWidths : Header → List Bool
+headerWidths (Response c class type status) = commonWidths c ++ (ltb class 4 ∷ ltb type 8 ∷ ltb status 8 ∷ [])
+headerWidths (Unconfirmed c fsn) = commonWidths c ++ (ltb fsn 16 ∷ [])
+headerWidths (Confirmed c s ns fsn) = commonWidths c ++ (ltb s 2 ∷ ltb ns 8 ∷ ltb fsn 16 ∷ [])
 
 -- tests that all give 16 where they fail
 abbrev pub widths : List Bool → List (Bool × ℕ)
@@ -114,7 +101,7 @@ widths [] = []
 widths (t ∷ ts) = (t, 16) ∷ widths ts
 
 unfoldable pub widthNumber : Header → ℕ
-widthNumber h = firstFailed (widths (commonWidths (commonFields h) ++ lastWidths h))
+widthNumber h = firstFailed (widths (headerWidths h))
 
 -- zeros beside the number of a refusal
 unfoldable pub writeHeader : Header → HeaderOctets

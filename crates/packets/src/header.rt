@@ -4,8 +4,8 @@ ghost use Prim.Native.Nat.{_<_};
 ghost use lib.Dec.{eqb};
 ghost use lib.ListN.{length};
 ghost use Rattle.codes.specs.Order.{firstFailed};
-ghost use Rattle.packets.specs.Headers.{commonOf, headerOf, knownFormat, readHeader, formatNumber, commonFields, lastOctet, headerBody, withCheck, commonWidths, lastWidths, widths, writeHeader, headerFor};
-ghost use Rattle.packets.specs.Parts.{CommonWithin, LastWithin};
+ghost use Rattle.packets.specs.Headers.{commonOf, headerOf, knownFormat, readHeader, headerBody, withCheck, commonWidths, widths, writeHeader, headerFor};
+ghost use Rattle.packets.specs.Parts.{formatNumber, commonFields, lastOctet, lastWidths, CommonWithin, LastWithin};
 use addresses::RadioAddress;
 
 // The mask of headers.

@@ -5,7 +5,8 @@ use native.Mathlib.Omega.{arith}
 use lib.Dec.{lit≤}
 use Rattle.polynomials.specs.Bits.{number, octets}
 use Rattle.codes.proofs.Filling.{Filled, filled-start, filled-more, filled-done}
-use Rattle.bursts.specs.Bursts.{fieldRun, fieldOf}
+use Rattle.bursts.specs.Bursts.{fieldOf}
+use Rattle.bursts.specs.Parts.{fieldRun}
 use Rattle.bursts.proofs.burst.field_octets.Statement.{statement}
 use Rattle.bursts.proofs.burst.field_octets.Tie as tie
 

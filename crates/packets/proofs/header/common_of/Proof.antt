@@ -2,7 +2,7 @@
 -- Assumes nothing.
 use mathlib.Core.Path.{sym, ap}
 use borrow.Author.Needs.{needs}
-use Rattle.packets.specs.Headers.{commonFields}
+use Rattle.packets.specs.Parts.{commonFields}
 use Rattle.packets.proofs.header.common_of.Statement.{statement}
 use Rattle.packets.proofs.header.common_of.Tie as tie
 

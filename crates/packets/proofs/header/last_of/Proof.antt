@@ -3,8 +3,7 @@
 use native.Mathlib.Omega.{arith}
 use mathlib.Core.Path.{sym, ap, subst}
 use borrow.Author.Needs.{needs}
-use Rattle.packets.specs.Headers.{lastOctet}
-use Rattle.packets.specs.Parts.{LastWithin}
+use Rattle.packets.specs.Parts.{lastOctet, LastWithin}
 use Rattle.packets.proofs.header.last_of.Statement.{statement}
 use Rattle.packets.proofs.header.last_of.Tie as tie
 
