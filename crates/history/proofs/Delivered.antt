@@ -12,7 +12,8 @@ use Rattle.checks.specs.Checks.{blockGood}
 use Rattle.codes.proofs.Tests.{every-true}
 use Rattle.packets.specs.Headers.{headerTests, headerNumber, writtenHeader, widthNumber, writeHeader}
 use Rattle.packets.specs.Blocks.{blockTests, writtenBlock}
-use Rattle.messages.specs.Messages.{blockSize, checkSize, mostBlocks, mostOctets, blocksOf, padOf, laidOut, blockData, Within, confirmedFsn, attemptHeader, fullHeader}
+use Rattle.messages.specs.Messages.{blockSize, checkSize, mostBlocks, mostOctets, blocksOf, padOf, laidOut, blockData, confirmedFsn, attemptHeader, fullHeader}
+use Rattle.messages.specs.MessageClaims.{Within}
 use Rattle.packets.specs.declared.header.Header.{Header}
 use Rattle.packets.specs.declared.header.HeaderOctets.{HeaderOctets}
 use Rattle.packets.specs.declared.block.Block.{Block}

@@ -14,7 +14,8 @@ use Rattle.codes.specs.Order.{firstFailed}
 use Rattle.checks.specs.Checks.{messageGood}
 use Rattle.packets.specs.Headers.{writtenHeader, widthNumber, writeHeader}
 use Rattle.packets.specs.Blocks.{writtenBlock}
-use Rattle.messages.specs.Messages.{blockSize, checkSize, mostOctets, blocksOf, sizeOf, blockData, writeMessageBlock, Within, attemptHeader, fullHeader}
+use Rattle.messages.specs.Messages.{blockSize, checkSize, mostOctets, blocksOf, sizeOf, blockData, writeMessageBlock, attemptHeader, fullHeader}
+use Rattle.messages.specs.MessageClaims.{Within}
 use Rattle.packets.specs.declared.header.HeaderOctets.{HeaderOctets}
 use Rattle.packets.specs.declared.block.BlockOctets.{BlockOctets}
 use Rattle.messages.specs.declared.message.Delivery.{Delivery}

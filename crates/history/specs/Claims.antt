@@ -6,7 +6,8 @@ use mathlib.Core.List.{List, [], _∷_, _++_}
 use Prim.Native.Nat.{ℕ, zero, suc, _-_, _^_, _≤_, _<_}
 use lib.ListN.{length, getD, replicate}
 use Rattle.addresses.specs.declared.RadioAddress.{RadioAddress}
-use Rattle.messages.specs.Messages.{mostOctets, blocksOf, writeMessageBlock, fullHeader, Within}
+use Rattle.messages.specs.Messages.{mostOctets, blocksOf, writeMessageBlock, fullHeader}
+use Rattle.messages.specs.MessageClaims.{Within}
 use Rattle.messages.specs.declared.message.Delivery.{Delivery}
 use Rattle.transactions.specs.Answers.{Said, refused, opened, repeat, stored, bad, message, response}
 use Rattle.receiver_state.specs.Receiver.{blockAt, storeSize, freshReceiver, held}

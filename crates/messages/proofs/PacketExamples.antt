@@ -3,11 +3,11 @@
 use mathlib.Core.Path.{refl}
 use Rattle.packets.specs.Headers.{headerBody, withCheck, writtenHeader}
 use Rattle.messages.specs.Messages.{blocksOf, padOf, sizeOf}
-use Rattle.messages.specs.Responses.{classOf, typeOf, responseHeader}
+use Rattle.messages.specs.Responses.{replyCode, responseHeader}
 use Rattle.messages.specs.PacketExamples.{MessageExamples}
 
 pub examples : MessageExamples
-unfolding headerBody withCheck writtenHeader blocksOf padOf sizeOf classOf typeOf responseHeader
+unfolding headerBody withCheck writtenHeader blocksOf padOf sizeOf replyCode responseHeader
 examples = record {
   size-0 = refl;
   size-6 = refl;

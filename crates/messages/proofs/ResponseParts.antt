@@ -13,7 +13,7 @@ use borrow.Author.Tests.{eqb-true, eqb-false, eq-eqb, ne-eqb}
 use Rattle.polynomials.proofs.Runs.{tabulated}
 use Rattle.checks.specs.Checks.{messageCheck, lowestFirst, headerGood, messageGood}
 use Rattle.packets.specs.Headers.{headerMask, part, formatOf, commonOf, headerOf, knownFormat, readHeader, writtenHeader, widthNumber, writeHeader}
-use Rattle.messages.specs.Responses.{classOf, typeOf, countOf, responseHeader, sackData, dataOf, writeResponse, isSack, refusedResponse, readResponse}
+use Rattle.messages.specs.Responses.{replyCode, responseHeader, sackData, dataOf, writeResponse, isSack, refusedResponse, readResponse}
 use Rattle.messages.specs.ResponseClaims.{GoodHeader, Outcome, header-size, header-check, header-format, block-size, block-check, header-alone, header-and-block}
 use Rattle.messages.specs.Parts.{answerWith, answerBeside, answerTo, answerAfter}
 use Rattle.packets.specs.declared.header.Common.{Common}
@@ -47,7 +47,7 @@ data-is flags check n e = rw e (ap (λ (l : List ℕ). l ++ lowestFirst (message
 
 -- ---- what is written
 
-pub header-is : (r : Reply) (d : Delivery) (count class kind : ℕ) → count ≡ countOf r → class ≡ classOf r → kind ≡ typeOf r
+pub header-is : (r : Reply) (d : Delivery) (count class kind : ℕ) → count ≡ replyCode r .2 → class ≡ replyCode r .0 → kind ≡ replyCode r .1
     → Response (record {
       group = 0;
       requested = 0;
@@ -79,7 +79,7 @@ module _ (r : Reply) (d : Delivery) (flags : List ℕ) (w : HeaderOctets) (e : w
   unfolding writeResponse
   write-refused n = rw (ne-eqb (widthNumber (responseHeader r d)) 0 (λ z. n (number-is ∙ z)))
 
-  pub write-done : (count : ℕ) (block : List ℕ) → w .number ≡ 0 → count ≡ countOf r → block ≡ dataOf r flags
+  pub write-done : (count : ℕ) (block : List ℕ) → w .number ≡ 0 → count ≡ replyCode r .2 → block ≡ dataOf r flags
       → record { number = 0; header = w .octets; blocks = count; block = block } ≡ writeResponse r d flags
   unfolding writeResponse writeHeader
   write-done count block n c b =

@@ -14,9 +14,10 @@ use borrow.Author.Tests.{eq-eqb, ne-eqb}
 use Rattle.codes.specs.Order.{firstFailed}
 use Rattle.checks.specs.Checks.{messageCheck, lowestFirst, headerGood, messageGood}
 use Rattle.checks.proofs.MessageChecks.{message-carried}
-use Rattle.packets.specs.Headers.{headerMask, part, formatOf, commonOf, commonFields, writtenHeader, widthNumber}
-use Rattle.messages.specs.Messages.{Within}
-use Rattle.messages.specs.Responses.{classOf, typeOf, countOf, responseHeader, sackData, dataOf, writeResponse, isSack, responseTests, responseNumber, refusedResponse, readResponse}
+use Rattle.packets.specs.Headers.{headerMask, part, formatOf, commonOf, writtenHeader, widthNumber}
+use Rattle.packets.specs.Parts.{commonFields}
+use Rattle.messages.specs.MessageClaims.{Within}
+use Rattle.messages.specs.Responses.{replyCode, responseHeader, sackData, dataOf, writeResponse, isSack, responseNumber, refusedResponse, readResponse}
 use Rattle.messages.specs.ResponseClaims.{flagsOf, answerOf, GoodHeader, Outcome, header-size, header-check, header-format, block-size, block-check, header-alone, header-and-block}
 use Rattle.messages.specs.Parts.{answerWith}
 use Rattle.messages.specs.declared.message.Delivery.{Delivery}
@@ -33,12 +34,12 @@ true-or-false false = inr refl
 module _ (h b : List ℕ) where
   after-header : GoodHeader h
       → responseNumber h b ≡ firstFailed ((cond (isSack h) (eqb (length b) 12) true, 1) ∷ (cond (isSack h) (messageGood b) true, 13) ∷ [])
-  unfolding responseNumber responseTests firstFailed
+  unfolding responseNumber firstFailed
   after-header g = rw (eq-eqb (length h) 12 (g .size), g .check, eq-eqb (formatOf h) 1 (g .format))
 
   -- the number that each outcome says
   pub outcome-number : {n : ℕ} → Outcome h b n → responseNumber h b ≡ n
-  unfolding responseNumber responseTests firstFailed
+  unfolding responseNumber firstFailed
   outcome-number (header-size e) = rw (ne-eqb (length h) 12 e)
   outcome-number (header-check e f) = rw (eq-eqb (length h) 12 e, f)
   outcome-number (header-format e f g) = rw (eq-eqb (length h) 12 e, f, ne-eqb (formatOf h) 1 g)
@@ -109,13 +110,13 @@ module _ (h b : List ℕ) where
 
 -- no block is looked at but that of a SACK
 pub read-unlooked : (h b b′ : List ℕ) → isSack h ≡ false → readResponse h b ≡ readResponse h b′
-unfolding readResponse responseNumber responseTests
+unfolding readResponse responseNumber
 read-unlooked h b b′ s = rw s
 
 -- ---- a response written
 
-reply-small : (r : Reply) → (classOf r < 4) × (typeOf r < 8) × (countOf r < 128)
-unfolding classOf typeOf countOf
+reply-small : (r : Reply) → (replyCode r .0 < 4) × (replyCode r .1 < 8) × (replyCode r .2 < 128)
+unfolding replyCode
 reply-small Ack = (omega arith, omega arith, omega arith)
 reply-small Nack = (omega arith, omega arith, omega arith)
 reply-small Sack = (omega arith, omega arith, omega arith)
@@ -140,7 +141,7 @@ module _ (r : Reply) (d : Delivery) (w : Within d) where
       }) (reply-small r .0, reply-small r .1, w .ns)
 
   pub response-written : (flags : List ℕ)
-      → writeResponse r d flags ≡ record { number = 0; header = writtenHeader (responseHeader r d); blocks = countOf r; block = dataOf r flags }
+      → writeResponse r d flags ≡ record { number = 0; header = writtenHeader (responseHeader r d); blocks = replyCode r .2; block = dataOf r flags }
   unfolding writeResponse
   response-written flags = rw response-fits
 
@@ -150,14 +151,14 @@ module _ (r : Reply) (d : Delivery) (w : Within d) where
   good-header =
       record { size = written-length (responseHeader r d); check = written-good (responseHeader r d); format = written-format (responseHeader r d) }
 
-  last-of : (part 6 2 (getD (headerOctets r d) 9 0) ≡ classOf r) × (part 3 3 (getD (headerOctets r d) 9 0) ≡ typeOf r) × (part 0 3 (getD (headerOctets r d) 9 0) ≡ d .ns)
+  last-of : (part 6 2 (getD (headerOctets r d) 9 0) ≡ replyCode r .0) × (part 3 3 (getD (headerOctets r d) 9 0) ≡ replyCode r .1) × (part 0 3 (getD (headerOctets r d) 9 0) ≡ d .ns)
   unfolding responseHeader
   last-of =
       let e = written-last (responseHeader r d) in
       let l = last-fits (responseHeader r d) response-fits in
       (omega arith, omega arith, omega arith)
 
-  sack-read : isSack (headerOctets r d) ≡ eqb (classOf r) 2
+  sack-read : isSack (headerOctets r d) ≡ eqb (replyCode r .0) 2
   unfolding isSack responseHeader
   sack-read = ap (λ (n : ℕ). eqb n 2) (last-of .0)
 
@@ -179,11 +180,11 @@ module _ (r : Reply) (d : Delivery) (w : Within d) where
     flags = f i;
   })
 
-  alone-read : classOf r ≢ 2 → (flags b : List ℕ) → flagsOf r flags ≡ replicate 8 0 → readResponse (headerOctets r d) b ≡ answerOf r d flags
+  alone-read : replyCode r .0 ≢ 2 → (flags b : List ℕ) → flagsOf r flags ≡ replicate 8 0 → readResponse (headerOctets r d) b ≡ answerOf r d flags
   alone-read e flags b f = fields-read flags b (outcome-number (headerOctets r d) b (header-alone good-header s)) (rw s (sym f))
     where
       s : isSack (headerOctets r d) ≡ false
-      s = sack-read ∙ ne-eqb (classOf r) 2 e
+      s = sack-read ∙ ne-eqb (replyCode r .0) 2 e
 
 module _ (flags : List ℕ) where
   pub length-sackData : length flags ≡ 8 → length (sackData flags) ≡ 12
@@ -196,15 +197,15 @@ module _ (flags : List ℕ) where
 
 module _ (d : Delivery) (flags : List ℕ) (w : Within d) where
   pub ack-back : (b : List ℕ) → readResponse (writeResponse Ack d flags .header) b ≡ answerOf Ack d flags
-  unfolding classOf flagsOf
+  unfolding replyCode flagsOf
   ack-back b = rw (response-written Ack d w flags) (alone-read Ack d w (λ e. omega arith) flags b refl)
 
   pub nack-back : (b : List ℕ) → readResponse (writeResponse Nack d flags .header) b ≡ answerOf Nack d flags
-  unfolding classOf flagsOf
+  unfolding replyCode flagsOf
   nack-back b = rw (response-written Nack d w flags) (alone-read Nack d w (λ e. omega arith) flags b refl)
 
   pub sack-back : length flags ≡ 8 → readResponse (writeResponse Sack d flags .header) (writeResponse Sack d flags .block) ≡ answerOf Sack d flags
-  unfolding classOf flagsOf dataOf sackData
+  unfolding replyCode flagsOf dataOf sackData
   sack-back n =
       rw (response-written Sack d w flags)
       (fields-read Sack d w flags (sackData flags)

@@ -2,7 +2,7 @@
 -- Assumes nothing.
 use mathlib.Core.Bool.{Bool, cond}
 use mathlib.Core.List.{List, [], _∷_, _++_}
-use Prim.Native.Nat.{ℕ, zero, suc, _+_, _*_, _-_, _/_, _^_, _<_}
+use Prim.Native.Nat.{ℕ, _+_, _*_, _-_, _/_}
 use lib.Dec.{eqb, leb, ltb}
 use lib.ListN.{length, take, drop, replicate}
 use Rattle.codes.specs.Order.{firstFailed}
@@ -51,11 +51,6 @@ laidOut m = padded m ++ lowestFirst (messageCheck (padded m))
 unfoldable pub blockData : List ℕ → ℕ → List ℕ
 blockData m n = take blockSize (drop (blockSize * n) (laidOut m))
 
--- f 0, f 1, .. of k lists, one behind the other
-unfoldable pub joined : (ℕ → List ℕ) → ℕ → List ℕ
-joined f zero = []
-joined f (suc k) = joined f k ++ f k
-
 -- what the writer of block n tests: the message's size, and that it has such a block
 unfoldable pub blockPartTests : List ℕ → ℕ → List (Bool × ℕ)
 blockPartTests m n = (leb (length m) mostOctets, 16) ∷ (ltb n (blocksOf (length m)), 16) ∷ []
@@ -65,13 +60,6 @@ writeMessageBlock m n = record {
   number = firstFailed (blockPartTests m n);
   octets = cond (eqb (firstFailed (blockPartTests m n)) 0) (writtenBlock n (blockData m n)) (replicate 12 0);
 }
-
--- each field of a delivery within its width
-pub record Within (d : Delivery) : Type 0 where
-  pub sap : d .sap < 16
-  pub ns : d .ns < 8
-  pub destination : d .destination .0 < 2 ^ 24
-  pub source : d .source .0 < 2 ^ 24
 
 -- FSN of a confirmed message: 1000
 abbrev pub confirmedFsn : ℕ

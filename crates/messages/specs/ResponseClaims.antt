@@ -8,8 +8,8 @@ use Prim.Native.Nat.{ℕ}
 use lib.ListN.{length, replicate}
 use Rattle.checks.specs.Checks.{headerGood, messageGood}
 use Rattle.packets.specs.Headers.{headerMask, formatOf, widthNumber}
-use Rattle.messages.specs.Messages.{Within}
-use Rattle.messages.specs.Responses.{classOf, typeOf, responseHeader, isSack, writeResponse, refusedResponse, readResponse}
+use Rattle.messages.specs.MessageClaims.{Within}
+use Rattle.messages.specs.Responses.{replyCode, responseHeader, isSack, writeResponse, refusedResponse, readResponse}
 use Rattle.messages.specs.declared.message.Delivery.{Delivery}
 use Rattle.messages.specs.declared.response.Reply.{Reply}
 use Rattle.messages.specs.declared.response.Reply.the-variants.{Ack, Nack, Sack}
@@ -25,8 +25,8 @@ flagsOf Sack flags = flags
 abbrev pub answerOf : Reply → Delivery → List ℕ → ResponseAnswer
 answerOf r d flags = record {
   number = 0;
-  class = classOf r;
-  kind = typeOf r;
+  class = replyCode r .0;
+  kind = replyCode r .1;
   status = d .ns;
   sap = d .sap;
   destination = d .destination;

@@ -17,42 +17,30 @@ use Rattle.messages.specs.declared.response.ResponseOctets.{ResponseOcte
 use Rattle.messages.specs.declared.response.ResponseAnswer.{ResponseAnswer}
 
 -- class, type and block count: ACK 00 001, NACK 01 001, SACK 10 000 with one data block
-unfoldable pub classOf : Reply → ℕ
-classOf Ack = 0
-classOf Nack = 1
-classOf Sack = 2
-
-unfoldable pub typeOf : Reply → ℕ
-typeOf Ack = 1
-typeOf Nack = 1
-typeOf Sack = 0
-
-unfoldable pub countOf : Reply → ℕ
-countOf Ack = 0
-countOf Nack = 0
-countOf Sack = 1
+unfoldable pub replyCode : Reply → ℕ × ℕ × ℕ
+replyCode Ack = (0, 1, 0)
+replyCode Nack = (1, 1, 0)
+replyCode Sack = (2, 0, 1)
 
 -- group, A, pad and flag are 0; status is N(S)
 unfoldable pub responseHeader : Reply → Delivery → Header
 responseHeader r d =
     Response
-    (record { group = 0; requested = 0; pad = 0; sap = d .sap; destination = d .destination; source = d .source; full = 0; blocks = countOf r })
-    (classOf r) (typeOf r) (d .ns)
+    (record { group = 0; requested = 0; pad = 0; sap = d .sap; destination = d .destination; source = d .source; full = 0; blocks = replyCode r .2 })
+    (replyCode r .0) (replyCode r .1) (d .ns)
 
 -- the data block of a SACK
 unfoldable pub sackData : List ℕ → List ℕ
 sackData flags = flags ++ lowestFirst (messageCheck flags)
 
 unfoldable pub dataOf : Reply → List ℕ → List ℕ
-dataOf Ack flags = replicate 12 0
-dataOf Nack flags = replicate 12 0
-dataOf Sack flags = sackData flags
+dataOf r flags = cond (eqb (replyCode r .2) 0) (replicate 12 0) (sackData flags)
 
 -- what the writer answers: the header, how many data blocks follow, and the data block; zeros beside the number of a refusal
 unfoldable pub writeResponse : Reply → Delivery → List ℕ → ResponseOctets
 writeResponse r d flags =
     cond (eqb (widthNumber (responseHeader r d)) 0)
-    (record { number = 0; header = writtenHeader (responseHeader r d); blocks = countOf r; block = dataOf r flags })
+    (record { number = 0; header = writtenHeader (responseHeader r d); blocks = replyCode r .2; block = dataOf r flags })
     (record { number = 16; header = replicate 12 0; blocks = 0; block = replicate 12 0 })
 
 -- ---- reading
@@ -62,13 +50,10 @@ unfoldable pub isSack : List ℕ → Bool
 isSack h = eqb (part 6 2 (getD h 9 0)) 2
 
 -- the order of checks: the header's size, check and format, then for a SACK its block's size and check
-unfoldable pub responseTests : List ℕ → List ℕ → List (Bool × ℕ)
-responseTests h b =
-    (eqb (length h) 12, 1) ∷ (headerGood headerMask h, 8) ∷ (eqb (formatOf h) 1, 9) ∷ (cond (isSack h) (eqb (length b) 12) true, 1)
-    ∷ (cond (isSack h) (messageGood b) true, 13) ∷ []
-
 unfoldable pub responseNumber : List ℕ → List ℕ → ℕ
-responseNumber h b = firstFailed (responseTests h b)
+responseNumber h b =
+    firstFailed ((eqb (length h) 12, 1) ∷ (headerGood headerMask h, 8) ∷ (eqb (formatOf h) 1, 9) ∷ (cond (isSack h) (eqb (length b) 12) true, 1)
+    ∷ (cond (isSack h) (messageGood b) true, 13) ∷ [])
 
 -- zeros beside the number of a refusal
 abbrev pub refusedResponse : ℕ → ResponseAnswer

@@ -1,7 +1,7 @@
 // Responses to an attempt.
 ghost use mathlib.Core.Path.{_≡_};
 ghost use lib.ListN.{length, take};
-ghost use Rattle.messages.specs.Responses.{countOf, responseHeader, sackData, dataOf, writeResponse, refusedResponse, readResponse};
+ghost use Rattle.messages.specs.Responses.{replyCode, responseHeader, sackData, dataOf, writeResponse, refusedResponse, readResponse};
 ghost use Rattle.messages.specs.Parts.{answerWith, answerBeside, answerTo};
 use crate::message::Delivery;
 use addresses::RadioAddress;
@@ -43,7 +43,7 @@ pub struct ResponseAnswer {
 
 // How many data blocks follow the header.
 fn count_of(reply: Reply) -> u8
-    ensures { λ r. ⌜ r ≡ countOf reply ⌝ }
+    ensures { λ r. ⌜ r ≡ replyCode reply .2 ⌝ }
 {
     match reply {
         Reply::Ack => 0,
