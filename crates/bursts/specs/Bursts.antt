@@ -39,7 +39,7 @@ slotBits b = number (followed 10 (λ p. octetBit b (98 + p)) (λ p. octetBit b (
 unfoldable pub fieldOf : List ℕ → List ℕ
 fieldOf b = octets 25 (followed 98 (octetBit b) (λ p. octetBit b (166 + p)))
 
--- the data octet of a slot type
+-- the data octet of a slot type, 0 where there is none
 unfoldable pub slotData : SlotType → ℕ
 slotData (Data d) = d
 slotData NoCodeword = 0

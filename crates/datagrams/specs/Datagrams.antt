@@ -25,7 +25,7 @@ nextSequence n = (n + 1) % 256
 
 -- ---- reading
 
--- of octet 15: frame type, data type
+-- frame type and data type in octet 15
 abbrev pub frameOf : List ℕ → ℕ
 frameOf d = getD d 15 0 / 16 % 4
 

@@ -33,6 +33,7 @@ responseHeader r d =
 unfoldable pub sackData : List ℕ → List ℕ
 sackData flags = flags ++ lowestFirst (messageCheck flags)
 
+-- the data block of a reply; zeros where its count is 0
 unfoldable pub dataOf : Reply → List ℕ → List ℕ
 dataOf r flags = cond (eqb (replyCode r .2) 0) (replicate 12 0) (sackData flags)
 

@@ -1,7 +1,7 @@
 -- A header is written, and its fields are tested, by its parts.
 -- Assumes nothing.
 use mathlib.Core.Path.{_≡_, refl}
-use mathlib.Core.List.{List, _++_}
+use mathlib.Core.List.{_++_}
 use Rattle.packets.specs.Headers.{headerBody, withCheck, writtenHeader, commonWidths, headerWidths}
 use Rattle.packets.specs.Parts.{formatNumber, commonFields, lastOctet, lastWidths}
 use Rattle.packets.specs.declared.header.Header.{Header}

@@ -110,4 +110,5 @@ writeHeader h = record { number = widthNumber h; octets = cond (eqb (widthNumber
 -- a header of a format given as a number, its octet 9 in up to three fields; 16 for a format not 1 to 3
 unfoldable pub headerFor : ℕ → Common → ℕ → ℕ → ℕ → HeaderAnswer
 headerFor format c x y z =
-    cond (eqb format 1) (Accepted (Response c x y z)) (cond (eqb format 2) (Accepted (Unconfirmed c x)) (cond (eqb format 3) (Accepted (Confirmed c x y z)) (Refused 16)))
+    cond (eqb format 1) (Accepted (Response c x y z))
+    (cond (eqb format 2) (Accepted (Unconfirmed c x)) (cond (eqb format 3) (Accepted (Confirmed c x y z)) (Refused 16)))
