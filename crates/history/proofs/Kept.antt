@@ -7,7 +7,7 @@ use Prim.Native.Nat.{ℕ, zero, suc, _<_}
 use native.Mathlib.Omega.{arith}
 use lib.Dec.{T, eqb}
 use Rattle.codes.proofs.Tests.{every-at}
-use Rattle.messages.specs.MessageClaims.{joined}
+use Rattle.messages.specs.Messages.{joined}
 use Rattle.transactions.specs.declared.header.Transaction.{Transaction}
 use Rattle.transactions.proofs.Tests.{either, never}
 use Rattle.history.specs.History.{Kept, holds, heldData, whole}

@@ -8,8 +8,7 @@ use lib.ListN.{length, take}
 use Rattle.addresses.specs.declared.RadioAddress.{RadioAddress}
 use Rattle.codes.specs.Order.{every}
 use Rattle.checks.specs.Checks.{blockGood, messageGood}
-use Rattle.messages.specs.Messages.{blockSize, checkSize}
-use Rattle.messages.specs.MessageClaims.{joined}
+use Rattle.messages.specs.Messages.{blockSize, checkSize, joined}
 use Rattle.transactions.specs.Transactions.{all, transactionOf, isFull, heardNumber, repeats, serialOf, dataOf, takenNumber}
 use Rattle.transactions.specs.Answers.{Said, refused, opened, repeat, stored, bad, message, responseTo, responseSaid}
 use Rattle.transactions.specs.declared.header.Transaction.{Transaction}

@@ -12,8 +12,8 @@ use borrow.Author.Tests.{le-leb, ne-eqb}
 use Rattle.checks.specs.Checks.{messageCheck, lowestFirst, messageGood}
 use Rattle.checks.proofs.MessageChecks.{message-carried}
 use Rattle.packets.specs.Headers.{widthNumber, writtenHeader, writeHeader}
-use Rattle.messages.specs.Messages.{blockSize, checkSize, mostBlocks, mostOctets, blocksOf, padOf, padded, laidOut, blockData, attemptHeader, fullHeader, partialHeader}
-use Rattle.messages.specs.MessageClaims.{joined, Within}
+use Rattle.messages.specs.Messages.{blockSize, checkSize, mostBlocks, mostOctets, blocksOf, padOf, padded, laidOut, blockData, attemptHeader, fullHeader, partialHeader, joined}
+use Rattle.messages.specs.MessageClaims.{Within}
 use Rattle.messages.specs.declared.message.Delivery.{Delivery}
 use Rattle.packets.proofs.Octets.{Octets, octets-append, octets-take, octets-drop, octets-zeros, octets-lowestFirst}
 use Rattle.packets.proofs.HeaderWriting.{fits}

@@ -2,19 +2,14 @@
 -- Assumes nothing.
 use mathlib.Core.Path.{_≡_}
 use mathlib.Core.Bool.{true}
-use mathlib.Core.List.{List, [], _++_}
-use Prim.Native.Nat.{ℕ, zero, suc, _+_, _*_, _^_, _≤_, _<_}
+use mathlib.Core.List.{List}
+use Prim.Native.Nat.{ℕ, _+_, _*_, _^_, _≤_, _<_}
 use lib.ListN.{length, take, getD, replicate}
 use Rattle.checks.specs.Checks.{messageGood}
 use Rattle.packets.specs.Headers.{writtenHeader}
 use Rattle.packets.specs.Blocks.{writtenBlock}
-use Rattle.messages.specs.Messages.{blockSize, checkSize, mostBlocks, mostOctets, blocksOf, padOf, sizeOf, laidOut, blockData, writeMessageBlock, attemptHeader, refusedHeader, fullHeader, partialHeader}
+use Rattle.messages.specs.Messages.{blockSize, checkSize, mostBlocks, mostOctets, blocksOf, padOf, sizeOf, laidOut, blockData, joined, writeMessageBlock, attemptHeader, refusedHeader, fullHeader, partialHeader}
 use Rattle.messages.specs.declared.message.Delivery.{Delivery}
-
--- f 0, f 1, .. of k lists, one behind the other
-unfoldable pub joined : (ℕ → List ℕ) → ℕ → List ℕ
-joined f zero = []
-joined f (suc k) = joined f k ++ f k
 
 -- each field of a delivery within its width
 pub record Within (d : Delivery) : Type 0 where

@@ -2,7 +2,7 @@
 -- Assumes nothing.
 use mathlib.Core.Bool.{Bool, cond}
 use mathlib.Core.List.{List, [], _∷_, _++_}
-use Prim.Native.Nat.{ℕ, _+_, _*_, _-_, _/_}
+use Prim.Native.Nat.{ℕ, zero, suc, _+_, _*_, _-_, _/_}
 use lib.Dec.{eqb, leb, ltb}
 use lib.ListN.{length, take, drop, replicate}
 use Rattle.codes.specs.Order.{firstFailed}
@@ -50,6 +50,11 @@ laidOut m = padded m ++ lowestFirst (messageCheck (padded m))
 -- the data of block n
 unfoldable pub blockData : List ℕ → ℕ → List ℕ
 blockData m n = take blockSize (drop (blockSize * n) (laidOut m))
+
+-- f 0, f 1, .. of k lists, one behind the other
+unfoldable pub joined : (ℕ → List ℕ) → ℕ → List ℕ
+joined f zero = []
+joined f (suc k) = joined f k ++ f k
 
 -- what the writer of block n tests: the message's size, and that it has such a block
 unfoldable pub blockPartTests : List ℕ → ℕ → List (Bool × ℕ)
