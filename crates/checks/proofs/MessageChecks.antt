@@ -29,7 +29,7 @@ module _ (os : List ℕ) where
       → divide 32 messageGenerator (bitXor (soFar i) (getD os j 0 * 2 ^ 24)) zeros 8 ≡ soFar (i + 1)
   soFar-more i j h e l =
       ap (λ (o : ℕ). divide 32 messageGenerator (bitXor (soFar i) (o * 2 ^ 24)) zeros 8) same
-      ∙ octet-more (messageGenerator - 2 ^ 32) (exchanged os) i (omega (arith, same))
+      ∙ octet-more 32 messageGenerator (omega arith) (exchanged os) i (omega (arith, same))
     where
       same : getD os j 0 ≡ getD (exchanged os) i 0
       same = ap (λ (k : ℕ). getD os k 0) e ∙ sym (getD-exchanged os i h)

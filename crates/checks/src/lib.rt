@@ -1,22 +1,46 @@
-// The checks of headers, blocks and messages, over any octets. Each generator of degree n stands in the n high bits of a word,
-// without its highest power, so that its checks do too.
+// The checks of headers, blocks and messages, over any octets. The header's register takes in octets by folds. The other two
+// generators, of degree n, stand in the n high bits of a word, without their highest power, so that their checks do too.
 ghost use mathlib.Core.Path.{_≡_};
 ghost use mathlib.Core.Bool.{cond};
 ghost use Prim.Native.Nat.{_+_, _*_, _-_, _%_, _<_};
 ghost use lib.Dec.{eqb, ltb};
-ghost use Rattle.checks.specs.Checks.{headerCheck, blockCheck, messageCheck, lowestFirst, headerGood, blockGood, messageGood};
-
-const HEADER: u32 = 0x1021_0000;
+ghost use lib.ListN.{length};
+ghost use Rattle.polynomials.specs.Bits.{zeros, octetBit};
+ghost use Rattle.polynomials.specs.Remainder.{divide, check};
+ghost use Rattle.checks.specs.Checks.{headerGenerator, headerCheck, blockCheck, messageCheck, lowestFirst, headerGood, blockGood, messageGood};
 
 const BLOCK: u32 = 0x2C80_0000;
 
 const MESSAGE: u32 = 0x04C1_1DB7;
 
+// The header's register x times x^8. What goes out at its top comes back at x^12, x^5 and 1; of what comes back
+// at x^12 the upper four bits go out again.
+fn times_octet(x: u16) -> u16
+    ensures { λ r. ⌜ r ≡ divide 16 headerGenerator x zeros 8 ⌝ }
+{
+    let t = x >> 8;
+    let u = t ^ (t >> 4);
+    (x << 8) ^ (u << 12) ^ (u << 5) ^ u
+}
+
+// The remainder that the header's check is made of.
+fn header_remainder(octets: &[u8]) -> u16
+    ensures { λ r. ⌜ r ≡ check 16 headerGenerator (octetBit (now (octets .entry))) (8 * length (now (octets .entry))) ⌝ }
+{
+    let mut r: u16 = 0;
+    let mut i: usize = 0;
+    while i < octets.len() {
+        r = times_octet(r ^ ((octets[i] as u16) << 8));
+        i += 1;
+    }
+    r
+}
+
 // The header's check with any mask.
 pub fn header(mask: u16, octets: &[u8]) -> u16
     ensures { λ r. ⌜ r ≡ headerCheck mask (now (octets .entry)) ⌝ }
 {
-    ((polynomials::check_of(HEADER, octets) >> 16) as u16) ^ 0xFFFF ^ mask
+    header_remainder(octets) ^ 0xFFFF ^ mask
 }
 
 // Whether the last two octets are the header's check of those before.

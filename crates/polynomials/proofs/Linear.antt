@@ -1,11 +1,13 @@
 -- Functions that keep exclusive or: two of them that agree at each power of 2 below 2^k agree below 2^k.
 -- Assumes nothing.
 use mathlib.Core.Path.{_≡_, sym, ap, ap₂, _∙_}
+use mathlib.Core.Bool.{Bool, true, false, cond}
 use Prim.Native.Nat.{ℕ, zero, suc, _*_, _-_, _/_, _%_, _^_, _<_, _≤_}
 use native.Mathlib.Nat.{pow-suc}
 use native.Mathlib.Omega.{arith}
 use native.Mathlib.Decide.{decLt}
 use lib.Arith.{lt-one}
+use lib.Dec.{T, eqb, eqb→eq}
 use lib.Bits.{bitXor, xor-shr, xor-mod, xor-self, xor-shifted}
 use Rattle.polynomials.proofs.Xor.{xor-swap, xor-shl}
 
@@ -30,6 +32,15 @@ linear-xor f g hf hg a b = ap₂ bitXor (hf a b) (hg a b) ∙ xor-swap (f a) (f 
 linear-zero : (f : ℕ → ℕ) → Linear f → f 0 ≡ 0
 linear-zero f h = h 0 0 ∙ xor-self (f 0)
 
+both : (a b : Bool) → T (cond a b false) → T a × T b
+both true b t = (tt, t)
+both false b t = absurd t
+
+-- the test that two functions agree at each power of 2 below 2^k
+abbrev pub agree : (f g : ℕ → ℕ) → ℕ → Bool
+agree f g zero = true
+agree f g (suc k) = cond (eqb (f (2 ^ k)) (g (2 ^ k))) (agree f g k) false
+
 module _ (f g : ℕ → ℕ) (hf : Linear f) (hg : Linear g) where
   top : (k x : ℕ) → 2 ^ k ≤ x → x < 2 ^ suc k → x ≡ bitXor (1 * 2 ^ k) (x - 2 ^ k)
   top k x h l = let e = pow-suc 2 k in sym (xor-shifted 1 k (x - 2 ^ k) (omega arith) ∙ omega arith)
@@ -42,6 +53,8 @@ module _ (f g : ℕ → ℕ) (hf : Linear f) (hg : Linear g) where
       let z : 1 * 2 ^ k ≡ 2 ^ k = omega arith in
       ap f t ∙ hf (1 * 2 ^ k) (x - 2 ^ k) ∙ ap₂ bitXor (ap f z ∙ e ∙ sym (ap g z)) (ih (x - 2 ^ k) (omega arith)) ∙ sym (hg (1 * 2 ^ k) (x - 2 ^ k)) ∙ sym (ap g t)
 
-  pub linear-same : (k : ℕ) → ((i : ℕ) → i < k → f (2 ^ i) ≡ g (2 ^ i)) → (x : ℕ) → x < 2 ^ k → f x ≡ g x
-  linear-same zero e x h = rw (lt-one h) (linear-zero f hf ∙ sym (linear-zero g hg))
-  linear-same (suc k) e x h = more k (e k (omega arith)) (linear-same k (λ i l. e i (omega arith))) x h (decLt x (2 ^ k))
+  pub linear-same : (k : ℕ) → T (agree f g k) → (x : ℕ) → x < 2 ^ k → f x ≡ g x
+  linear-same zero t x h = rw (lt-one h) (linear-zero f hf ∙ sym (linear-zero g hg))
+  linear-same (suc k) t x h =
+      let p = both (eqb (f (2 ^ k)) (g (2 ^ k))) (agree f g k) t in
+      more k (eqb→eq (f (2 ^ k)) (g (2 ^ k)) (p .0)) (linear-same k (p .1)) x h (decLt x (2 ^ k))

@@ -1,8 +1,8 @@
--- What one shift of a 32-bit register does, and what an octet taken in adds to the check so far.
+-- What one shift of a 32-bit register does, and what an octet taken in by any register of eight bits or more adds to the check so far.
 -- Assumes nothing.
 use mathlib.Core.Path.{_≡_, sym, ap, ap₂, _∙_}
 use mathlib.Core.List.{List}
-use Prim.Native.Nat.{ℕ, _+_, _*_, _%_, _^_, _≤_, _<_}
+use Prim.Native.Nat.{ℕ, _+_, _*_, _-_, _%_, _^_, _≤_, _<_}
 use native.Mathlib.Nat.{one-mul, zero-add}
 use native.Mathlib.Omega.{arith}
 use lib.Bits.{bitXor, xor-block, xor-zero-r}
@@ -37,12 +37,12 @@ shift-high g r hg h l =
     one = omega arith
 
 -- the check of one octet more
-pub octet-more : (g : ℕ) (os : List ℕ) (i : ℕ) → getD os i 0 < 256
-    → divide 32 (2 ^ 32 + g) (bitXor (check 32 (2 ^ 32 + g) (octetBit os) (8 * i)) (getD os i 0 * 2 ^ 24)) zeros 8 ≡ check 32 (2 ^ 32 + g) (octetBit os) (8 * (i + 1))
-octet-more g os i h =
-    ap (λ (o : ℕ). divide 32 (2 ^ 32 + g) (bitXor (check 32 (2 ^ 32 + g) (octetBit os) (8 * i)) (o * 2 ^ 24)) zeros 8) (sym (octet-at os i h))
-    ∙ sym (check-more 32 (2 ^ 32 + g) (octetBit os) (octetBit-bits os) (8 * i) 8 (omega arith))
-    ∙ ap (check 32 (2 ^ 32 + g) (octetBit os)) more
+pub octet-more : (n g : ℕ) → 8 ≤ n → (os : List ℕ) (i : ℕ) → getD os i 0 < 256
+    → divide n g (bitXor (check n g (octetBit os) (8 * i)) (getD os i 0 * 2 ^ (n - 8))) zeros 8 ≡ check n g (octetBit os) (8 * (i + 1))
+octet-more n g l os i h =
+    ap (λ (o : ℕ). divide n g (bitXor (check n g (octetBit os) (8 * i)) (o * 2 ^ (n - 8))) zeros 8) (sym (octet-at os i h))
+    ∙ sym (check-more n g (octetBit os) (octetBit-bits os) (8 * i) 8 l)
+    ∙ ap (check n g (octetBit os)) more
   where
     more : 8 * i + 8 ≡ 8 * (i + 1)
     more = omega arith

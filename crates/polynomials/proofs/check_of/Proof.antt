@@ -42,7 +42,7 @@ loop-again c =
       omega arith,
       c .take-octet .ensures
           ∙ ap (λ (x : ℕ). divide 32 (2 ^ 32 + a .g) (bitXor x (o * 2 ^ 24)) zeros 8) (t .inv .1)
-          ∙ octet-more (a .g) (a .octets .now) (t .i) (omega (arith, c .before .shared-slice-known2 .given (t .i))),
+          ∙ octet-more 32 (2 ^ 32 + a .g) (omega arith) (a .octets .now) (t .i) (omega (arith, c .before .shared-slice-known2 .given (t .i))),
     )
 
 returns : tie.Need-returns Inv-loop μ-loop
