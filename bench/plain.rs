@@ -1,5 +1,5 @@
-//! The codes by the library's own algorithms, in the Rust that one writes without thinking of speed or proof: a register that takes a
-//! bit at a time, a search through the slot types, and a block field in 13 words.
+//! The codes by the library's own algorithms, in the Rust that one writes without thinking of speed or proof: checks that take a
+//! bit or, for headers, an octet at a time, a search through the slot types, and a block field in 13 words.
 
 use super::receiver::{Codes, Number};
 
@@ -26,6 +26,14 @@ fn register(generator: u32, octets: &[u8]) -> u32 {
         r = taken(generator, r, octet);
     }
     r
+}
+
+/// The header's register times x^8, by folds.
+#[inline(always)]
+fn times_octet(x: u16) -> u16 {
+    let t = x >> 8;
+    let u = t ^ t >> 4;
+    x << 8 ^ u << 12 ^ u << 5 ^ u
 }
 
 // ---- block field
@@ -134,7 +142,7 @@ impl Codes for Plain {
     }
 
     fn header_check(mask: u16, octets: &[u8]) -> u16 {
-        !((register(0x1021_0000, octets) >> 16) as u16) ^ mask
+        octets.iter().fold(0, |r, &octet| times_octet(r ^ u16::from(octet) << 8)) ^ 0xFFFF ^ mask
     }
 
     fn block_check(serial: u8, data: &[u8; 10]) -> u16 {
