@@ -206,12 +206,17 @@ static void refusals_capture(void) {
     put(datagram, 4);                   /* 1: the first octets of a datagram */
 }
 
-static void restart_log(void) {
+/* A message of which a restart stands between the two blocks. */
+static void put_over_restart(void) {
     put_record(0, header, sizeof header);
     put_record(1, blocks[0], sizeof blocks[0]);
     put_end();
     put_restart(0x1234);
     put_record(1, blocks[1], sizeof blocks[1]);
+}
+
+static void restart_log(void) {
+    put_over_restart();
     put_restart(0x1235);
     put_record(0, header, sizeof header);
     put_record(1, blocks[1], sizeof blocks[1]);
@@ -252,11 +257,7 @@ static void gateway_stdin(void) {
 }
 
 static void replay_stdin(void) {
-    put_record(0, header, sizeof header);
-    put_record(1, blocks[0], sizeof blocks[0]);
-    put_end();
-    put_restart(0x1234);
-    put_record(1, blocks[1], sizeof blocks[1]);
+    put_over_restart();
     put_record(0, header, sizeof header);
     put_bad_records();
 }
