@@ -15,6 +15,7 @@ mod plain;
 mod receiver;
 #[path = "../tests"]
 mod second {
+    pub mod random;
     pub mod reference;
 }
 mod timing;

@@ -1,9 +1,10 @@
 //! The library's readers beside the decoders of DSDcc, on the same words.
 
 use super::fast::Fast;
-use super::inputs::{field, slot_word, Random};
+use super::inputs::{field, slot_word};
 use super::library;
 use super::receiver::Codes;
+use super::second::random::Random;
 use super::timing::{best, version, Aim, Plan, Version};
 use std::hint::black_box;
 
@@ -72,7 +73,7 @@ fn line(plan: &Plan, what: &str, mut versions: Vec<Version>) -> f64 {
 
 pub fn measure(plan: &Plan) -> Aim {
     println!("\n{:<44}{:>11}{:>11}{:>11}{:>11}{:>10}", "beside DSDcc, ns each", "library", "fast", "DSDcc", "lib/DSDcc", "fast/D.");
-    let mut random = Random::new(4);
+    let mut random = Random(4);
     let mut most: f64 = 0.0;
     for (what, columns) in [("block field, 28 Hamming, no wrong bit", 0), ("block field, 28 Hamming, a wrong bit a column", 15)] {
         let fields: Vec<_> = (0..64).map(|_| field(&mut random, columns, false)).collect();

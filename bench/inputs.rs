@@ -2,33 +2,10 @@
 
 use super::fast::Fast;
 use super::receiver::{header, write_block, write_datagram, Codes};
+use super::second::random::Random;
 
 pub const OWN: u32 = 0x00_2711;
 pub const SOURCE: u32 = 0x00_9C42;
-
-pub struct Random(u64);
-
-impl Random {
-    pub fn new(seed: u64) -> Self {
-        Random(seed)
-    }
-
-    pub fn next(&mut self) -> u64 {
-        self.0 = self.0.wrapping_add(0x9E37_79B9_7F4A_7C15);
-        let mut z = self.0;
-        z = (z ^ z >> 30).wrapping_mul(0xBF58_476D_1CE4_E5B9);
-        z = (z ^ z >> 27).wrapping_mul(0x94D0_49BB_1331_11EB);
-        z ^ z >> 31
-    }
-
-    pub fn below(&mut self, n: u64) -> u64 {
-        self.next() % n
-    }
-
-    pub fn octets<const N: usize>(&mut self) -> [u8; N] {
-        std::array::from_fn(|_| self.next() as u8)
-    }
-}
 
 /// Exchange a bit for the other, the first highest in octet 0.
 pub fn flip(octets: &mut [u8], bit: usize) {
@@ -51,10 +28,10 @@ pub fn slot_word(random: &mut Random, parity: usize, data: usize) -> u32 {
 
 /// A block field with one wrong bit in this many columns; a deep one has any wrong bits in the last column.
 pub fn field(random: &mut Random, columns: usize, deep: bool) -> [u8; 25] {
-    let mut field = Fast::write_field(&random.octets());
+    let mut field = Fast::write_field(&random.array());
     let mut wrong = |r: usize, c: usize| flip(&mut field, 181 * (1 + 15 * r + c) % 196);
     for c in 0..columns {
-        wrong(random.below(13) as usize, c);
+        wrong(random.below(13), c);
     }
     for r in (0..13).filter(|_| deep && random.below(2) == 1) {
         wrong(r, 14);
@@ -86,22 +63,22 @@ pub fn round(random: &mut Random) -> Vec<[u8; 53]> {
 /// A capture for the gateway program: own address and this many datagrams, messages of 0 to 626 octets. In a worn one every third
 /// datagram has 1 to 3 wrong bits in its slot type and 1 to 5 in its block field, and every 50th is noise behind its labels.
 pub fn capture(count: usize, worn: bool) -> Vec<u8> {
-    let mut random = Random::new(7);
+    let mut random = Random(7);
     let mut out = Vec::with_capacity(3 + 53 * (count + 64));
     out.extend(&OWN.to_be_bytes()[1..]);
     let mut made = 0;
     for ns in (0..8).cycle() {
-        let length = random.below(627) as usize;
+        let length = random.below(627);
         for mut d in datagrams(&message(&mut random, length, ns)) {
             if worn && random.below(50) == 0 {
-                d[20..].copy_from_slice(&random.octets::<33>());
+                d[20..].copy_from_slice(&random.array::<33>());
             } else if worn && random.below(3) == 0 {
                 for _ in 0..1 + random.below(3) {
-                    let i = random.below(20) as usize;
+                    let i = random.below(20);
                     flip(&mut d[20..], if i < 10 { 98 + i } else { 146 + i });
                 }
                 for _ in 0..1 + random.below(5) {
-                    let i = random.below(196) as usize;
+                    let i = random.below(196);
                     flip(&mut d[20..], if i < 98 { i } else { 68 + i });
                 }
             }
@@ -118,7 +95,7 @@ pub fn capture(count: usize, worn: bool) -> Vec<u8> {
 /// Records for the replay program: messages of 0 to 626 octets with an end of attempt behind each, and a restart before every event,
 /// with other octets in the store. Says how many records there are.
 pub fn records(count: usize) -> (Vec<u8>, usize) {
-    let mut random = Random::new(8);
+    let mut random = Random(8);
     let mut out = OWN.to_be_bytes()[1..].to_vec();
     let mut made = 0;
     let mut record = |kind: u8, octets: &[u8]| {
@@ -127,9 +104,9 @@ pub fn records(count: usize) -> (Vec<u8>, usize) {
         out.extend(octets);
     };
     for ns in (0..8).cycle() {
-        let length = random.below(627) as usize;
+        let length = random.below(627);
         for (kind, info) in message(&mut random, length, ns).into_iter().chain([(8, [0; 12])]) {
-            record(3, &random.octets::<632>());
+            record(3, &random.array::<632>());
             record(kind - 6, if kind == 8 { &[] } else { &info });
             made += 2;
             if made >= count {

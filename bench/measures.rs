@@ -5,6 +5,7 @@ use super::inputs::*;
 use super::library;
 use super::plain::Plain;
 use super::receiver::{on_form, read_datagram, Codes, Receiver};
+use super::second::random::Random;
 use super::second::reference::{self, bits_of, octets_of};
 use super::timing::{head, measure, ratio, version, Aim, Plan, Version};
 use reference::history::{Given, History};
@@ -67,7 +68,7 @@ fn into<const N: usize>(read: impl Fn(&mut [u8; N]) -> u8) -> (u8, [u8; N]) {
 
 fn make<T>(f: impl FnMut(&mut Random) -> T) -> Vec<T> {
     let mut f = f;
-    let mut random = Random::new(1);
+    let mut random = Random(1);
     (0..MANY).map(|_| f(&mut random)).collect()
 }
 
@@ -80,7 +81,7 @@ pub fn codes(plan: &Plan) {
         ("slot type read, no codeword near", 1, 3),
     ] {
         let words = make(|random| loop {
-            let (more, fewer) = if parity == 0 && data == 1 { (random.below(2) as usize, random.below(2) as usize) } else { (0, 0) };
+            let (more, fewer) = if parity == 0 && data == 1 { (random.below(2), random.below(2)) } else { (0, 0) };
             let word = slot_word(random, parity + more, data + fewer);
             if (parity + data > 3) == reference::codes::read_slot_type(word).is_err() {
                 return word;
@@ -99,16 +100,16 @@ pub fn codes(plan: &Plan) {
         let reference = |f: &[u8; 25]| reference::codes::read_field(&bits_of(f)[..196]);
         of_inputs(plan, what, &fields, library::read_field, Plain::read_field, Fast::read_field, reference);
     }
-    let infos = make(|random| random.octets::<12>());
+    let infos = make(|random| random.array::<12>());
     let reference = |info: &[u8; 12]| octets_of(&reference::codes::write_field(info)).try_into().expect("25 octets");
     of_inputs(plan, "block field write", &infos, library::write_field, Plain::write_field, Fast::write_field, reference);
 
-    let tens = make(|random| random.octets::<10>());
+    let tens = make(|random| random.array::<10>());
     let library = |o: &[u8; 10]| library::header_check(0xCCCC, o);
     let reference = |o: &[u8; 10]| reference::codes::header_check(0xCCCC, o);
     let (plain, fast) = (|o: &[u8; 10]| Plain::header_check(0xCCCC, o), |o: &[u8; 10]| Fast::header_check(0xCCCC, o));
     of_inputs(plan, "header check, 10 octets", &tens, library, plain, fast, reference);
-    let halves = &make(|random| random.octets::<510>())[..32];
+    let halves = &make(|random| random.array::<510>())[..32];
     let library = |o: &[u8; 510]| library::header_check(0, o);
     let reference = |o: &[u8; 510]| reference::codes::header_check(0, o);
     let (plain, fast) = (|o: &[u8; 510]| Plain::header_check(0, o), |o: &[u8; 510]| Fast::header_check(0, o));
@@ -117,12 +118,12 @@ pub fn codes(plan: &Plan) {
     let reference = |o: &[u8; 10]| reference::codes::block_check(o[0] & 127, o);
     let (plain, fast) = (|o: &[u8; 10]| Plain::block_check(o[0] & 127, o), |o: &[u8; 10]| Fast::block_check(o[0] & 127, o));
     of_inputs(plan, "block check, 10 octets and serial", &tens, library, plain, fast, reference);
-    let messages = &make(|random| random.octets::<626>())[..32];
+    let messages = &make(|random| random.array::<626>())[..32];
     let reference = |o: &[u8; 626]| reference::codes::message_check(o);
     let (plain, fast) = (|o: &[u8; 626]| Plain::message_check(o), |o: &[u8; 626]| Fast::message_check(o));
     of_inputs(plan, "message check, 626 octets", messages, |o| library::message_check(o), plain, fast, reference);
 
-    let mut sent = round(&mut Random::new(2));
+    let mut sent = round(&mut Random(2));
     let library = |d: &[u8; 53]| into(|out| library::read_datagram(d, out));
     let plain = |d: &[u8; 53]| into(|out| read_datagram::<Plain>(d, out));
     let fast = |d: &[u8; 53]| into(|out| read_datagram::<Fast>(d, out));
@@ -213,7 +214,7 @@ pub fn events(plan: &Plan) -> [Aim; 2] {
     if !library::EVENTS {
         println!("skipped for the library: it has no kirruskabe_on_datagram");
     }
-    let sent = &round(&mut Random::new(3))[..];
+    let sent = &round(&mut Random(3))[..];
     let before = &compared(sent)[..];
     // a run is one message: each version goes round the eight
     let versions = on_forms().iter().map(|&(name, on)| {

@@ -20,6 +20,7 @@ mod interface;
 mod library;
 #[path = "outside/programs.rs"]
 mod programs;
+mod random;
 mod reference;
 #[path = "outside/selftest.rs"]
 mod selftest;

@@ -1,8 +1,9 @@
 //! Random lists of events, each event compared with the history rule: number, answer, and the stored form octet by octet.
 
-use super::bench::{good, Bench, Check, Left, Random};
+use super::bench::{good, Bench, Check, Left};
 use super::formats::damage_datagram;
 use super::interface::{line, Call, Octets, LINE};
+use super::random::Random;
 use crate::reference::burst::*;
 use crate::reference::history::{Given, History};
 use crate::reference::packet::*;
