@@ -139,21 +139,15 @@ fn replay<C: Codes>() -> Result<()> {
     }
 }
 
-fn by_reference(lines: impl Fn(&[u8]) -> String) -> Result<()> {
-    let mut input = Vec::new();
-    stdin().read_to_end(&mut input)?;
-    stdout().write_all(lines(&input).as_bytes())
-}
-
 fn main() -> Result<()> {
     let arguments: Vec<String> = std::env::args().skip(1).collect();
     match (arguments[0].as_str(), arguments[1].as_str()) {
         ("gateway", "plain") => gateway::<plain::Plain>(),
         ("gateway", "fast") => gateway::<fast::Fast>(),
-        ("gateway", "reference") => by_reference(second::reference::programs::gateway),
+        ("gateway", "reference") => second::reference::programs::gateway(stdin(), stdout()),
         ("replay", "plain") => replay::<plain::Plain>(),
         ("replay", "fast") => replay::<fast::Fast>(),
-        ("replay", "reference") => by_reference(second::reference::programs::replay),
+        ("replay", "reference") => second::reference::programs::replay(stdin(), stdout()),
         _ => panic!("baseline gateway|replay plain|fast|reference"),
     }
 }

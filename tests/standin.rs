@@ -9,7 +9,6 @@ mod reference;
 
 use interface::{Call, Interface, Model, Octets};
 use reference::wrong::Wrong;
-use std::io::{Read, Write};
 
 unsafe fn given(octets: *const u8, size: usize) -> Octets {
     std::slice::from_raw_parts(octets, size).into()
@@ -111,9 +110,10 @@ pub unsafe extern "C" fn kirruskabe_message_check(octets: In, len: usize) -> u32
 }
 
 fn main() -> std::io::Result<()> {
-    let mut input = Vec::new();
-    std::io::stdin().read_to_end(&mut input)?;
+    let (from, to) = (std::io::stdin(), std::io::stdout());
     let gateway = std::env::args().next().is_some_and(|name| name.ends_with("gateway"));
-    let lines = if gateway { reference::programs::gateway(&input) } else { reference::programs::replay(&input) };
-    std::io::stdout().write_all(lines.as_bytes())
+    if gateway {
+        return reference::programs::gateway(from, to);
+    }
+    reference::programs::replay(from, to)
 }

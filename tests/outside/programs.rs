@@ -3,10 +3,10 @@
 use super::bench::{good, Bench, Check};
 use super::events::{in_datagram, own_address, Event, Sender};
 use crate::reference::history::History;
-use crate::reference::programs::{gateway, replay, RESTART};
+use crate::reference::programs::{gateway, printed, replay, RESTART};
 use crate::reference::wrong::{with, Wrong};
 use crate::reference::*;
-use std::io::{Read, Write};
+use std::io::{BufRead, BufReader, Read, Write};
 use std::process::{Command, Stdio};
 use std::time::{Duration, Instant};
 
@@ -26,6 +26,9 @@ pub enum Feed {
 /// One that runs the programs.
 pub trait Runner {
     fn run(&self, program: Program, input: &[u8], feed: Feed) -> Result<String, String>;
+
+    /// The line of each datagram or record behind the own address, awaited before the next is handed over.
+    fn run_live(&self, program: Program, own: &[u8], parts: &[&[u8]]) -> Result<Vec<String>, String>;
 }
 
 /// The reference in place of the programs.
@@ -35,12 +38,17 @@ impl Runner for ModelRunner {
     fn run(&self, program: Program, input: &[u8], _: Feed) -> Result<String, String> {
         Ok(with(self.0, || expected(program, input)))
     }
+
+    fn run_live(&self, program: Program, own: &[u8], parts: &[&[u8]]) -> Result<Vec<String>, String> {
+        let lines = with(self.0, || expected(program, &[own, &parts.concat()].concat()));
+        Ok(lines.lines().take(parts.len()).map(String::from).collect())
+    }
 }
 
 fn expected(program: Program, input: &[u8]) -> String {
     match program {
-        Program::Gateway => gateway(input),
-        Program::Replay => replay(input),
+        Program::Gateway => printed(|from, to| gateway(from, to), input),
+        Program::Replay => printed(|from, to| replay(from, to), input),
     }
 }
 
@@ -52,9 +60,19 @@ pub struct Children {
 
 const PATIENCE: Duration = Duration::from_secs(60);
 
+impl Children {
+    fn path(&self, program: Program) -> &str {
+        if program == Program::Gateway {
+            &self.gateway
+        } else {
+            &self.replay
+        }
+    }
+}
+
 impl Runner for Children {
     fn run(&self, program: Program, input: &[u8], feed: Feed) -> Result<String, String> {
-        let path = if program == Program::Gateway { &self.gateway } else { &self.replay };
+        let path = self.path(program);
         let told = |why: std::io::Error| format!("{path}: {why}");
         let file = std::env::temp_dir().join(format!("outside-input-{}", std::process::id()));
         let stdin = match feed {
@@ -91,6 +109,26 @@ impl Runner for Children {
         }
         String::from_utf8(output).map_err(|_| format!("{path} prints octets that are no text"))
     }
+
+    fn run_live(&self, program: Program, own: &[u8], parts: &[&[u8]]) -> Result<Vec<String>, String> {
+        let path = self.path(program);
+        let told = |why: std::io::Error| format!("{path}: {why}");
+        let mut child = Command::new(path).stdin(Stdio::piped()).stdout(Stdio::piped()).spawn().map_err(told)?;
+        let (mut to, from) = (child.stdin.take().ok_or("no input")?, child.stdout.take().ok_or("no output")?);
+        let (put, lines) = std::sync::mpsc::channel();
+        std::thread::spawn(move || BufReader::new(from).lines().map_while(Result::ok).try_for_each(|line| put.send(line)));
+        let mut answers = vec![];
+        let result = to.write_all(own).map_err(told).and_then(|()| {
+            for part in parts {
+                to.write_all(part).map_err(told)?;
+                answers.push(lines.recv_timeout(PATIENCE).map_err(|why| format!("{path} gives no line while its input is open: {why}"))?);
+            }
+            Ok(answers)
+        });
+        let _ = child.kill();
+        child.wait().map_err(told)?;
+        result
+    }
 }
 
 /// Write in pieces, and let the reader come to each of the first ones.
@@ -106,6 +144,7 @@ fn write_pieces(mut to: impl Write, input: &[u8], piece: usize) -> std::io::Resu
 
 pub fn programs(bench: &mut Bench, runner: &dyn Runner) -> Check {
     short_inputs(bench, runner)?;
+    live(bench, runner)?;
     for round in 0..bench.rounds(60).max(12) {
         let long = round % 20 == 19;
         let datagrams = if long { 2500 } else { bench.random.below(200) };
@@ -137,6 +176,30 @@ fn compare(bench: &mut Bench, runner: &dyn Runner, program: Program, input: &[u8
         }
     }
     Ok(())
+}
+
+/// Each datagram and each record is answered when it has come, with the input still open.
+fn live(bench: &mut Bench, runner: &dyn Runner) -> Check {
+    let capture = capture(bench, 100)?;
+    let datagrams: Vec<&[u8]> = capture[3..].chunks_exact(53).collect();
+    compare_live(bench, runner, Program::Gateway, &capture[..3], &datagrams)?;
+    let log = log(bench, 100)?;
+    let (mut records, mut rest) = (vec![], &log[3..]);
+    while rest.len() >= 3 && rest.len() >= 3 + number(&rest[1..3]) as usize {
+        let (record, after) = rest.split_at(3 + number(&rest[1..3]) as usize);
+        records.push(record);
+        rest = after;
+    }
+    compare_live(bench, runner, Program::Replay, &log[..3], &records)
+}
+
+fn compare_live(bench: &mut Bench, runner: &dyn Runner, program: Program, own: &[u8], parts: &[&[u8]]) -> Check {
+    let expected = expected(program, &[own, &parts.concat()].concat());
+    let got = runner.run_live(program, own, parts)?;
+    for (at, (g, e)) in got.iter().zip(expected.lines()).enumerate() {
+        bench.check(g == e, || format!("{program:?} with its input open: line {at} is {g:?}, expected {e:?}"))?;
+    }
+    bench.check(got.len() == parts.len(), || format!("{program:?} with its input open: {} lines for {}", got.len(), parts.len()))
 }
 
 /// No input, an address or a part of it, and little behind it.

@@ -4,7 +4,7 @@ use super::burst::*;
 use super::codes::*;
 use super::history::*;
 use super::packet::*;
-use super::programs::gateway;
+use super::programs::{gateway, printed};
 use super::stored::*;
 use super::*;
 
@@ -79,8 +79,9 @@ pub fn examples() -> Result<u64, String> {
         check("wrong bits in a slot type", read_slot_type(write_slot_type(0x16) ^ word) == expected)?;
     }
 
-    check("address and 53 zero octets", gateway(&[0; 56]) == "0 2\nend 1 0 1\n")?;
-    check("under three octets", gateway(&[0; 2]) == "end 0 0 0\n" && gateway(&[0; 3]) == "end 0 0 0\n")?;
+    let zeros = |n| printed(|from, to| gateway(from, to), &vec![0; n]);
+    check("address and 53 zero octets", zeros(56) == "0 2\nend 1 0 1\n")?;
+    check("under three octets", zeros(2) == "end 0 0 0\n" && zeros(3) == "end 0 0 0\n")?;
 
     let idle: [u8; 33] = sized(&from_hex(IDLE_BURST)).unwrap_or([0; 33]);
     let (word, field) = parts(&idle);

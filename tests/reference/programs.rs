@@ -4,25 +4,39 @@ use super::history::{Given, History};
 use super::stored::save;
 use super::wrong::{wrong, Wrong};
 use super::*;
+use std::io::{Read, Result, Write};
 
-/// Own address, then datagrams of 53 octets: a line for each, then the counts.
-pub fn gateway(input: &[u8]) -> String {
-    let mut lines = String::new();
+/// The next n octets; fewer where the input ends.
+fn next(from: &mut impl Read, n: usize) -> Result<Vec<u8>> {
+    let mut octets = vec![];
+    from.take(n as u64).read_to_end(&mut octets)?;
+    Ok(octets)
+}
+
+/// What a program prints of a whole input.
+pub fn printed(program: impl FnOnce(&[u8], &mut Vec<u8>) -> Result<()>, input: &[u8]) -> String {
+    let mut lines = vec![];
+    program(input, &mut lines).expect("memory is read and written");
+    String::from_utf8(lines).expect("the lines are text")
+}
+
+/// Own address, then datagrams of 53 octets: a line for each when it is read, then the counts.
+pub fn gateway(mut from: impl Read, mut to: impl Write) -> Result<()> {
     let (mut datagrams, mut messages, mut refused) = (0, 0, 0);
-    if input.len() >= 3 {
-        let mut receiver = History { own: number(&input[..3]), present: None };
-        for datagram in input[3..].chunks(53) {
-            if datagram.len() < 53 && wrong(Wrong::LeftoverNotCounted) {
-                break;
-            }
-            let given = receiver.on_datagram(datagram);
-            lines += &format!("{datagrams} {}\n", given.as_ref().err().unwrap_or(&0));
-            datagrams += 1;
-            messages += u32::from(matches!(given, Ok(Given::HandedOn(_))));
-            refused += u32::from(given.is_err());
+    let own = next(&mut from, 3)?;
+    let mut receiver = History { own: number(&own), present: None };
+    while own.len() == 3 {
+        let datagram = next(&mut from, 53)?;
+        if datagram.is_empty() || datagram.len() < 53 && wrong(Wrong::LeftoverNotCounted) {
+            break;
         }
+        let given = receiver.on_datagram(&datagram);
+        writeln!(to, "{datagrams} {}", given.as_ref().err().unwrap_or(&0))?;
+        datagrams += 1;
+        messages += u32::from(matches!(given, Ok(Given::HandedOn(_))));
+        refused += u32::from(given.is_err());
     }
-    lines + &format!("end {datagrams} {messages} {refused}\n")
+    writeln!(to, "end {datagrams} {messages} {refused}")
 }
 
 /// Hexadecimal in lower case; `-` for no octets.
@@ -49,34 +63,30 @@ fn line(given: Answer<Given>) -> String {
 /// The octets of a restart: a stamp, and what the store holds before.
 pub const RESTART: usize = 2 + STORE;
 
-/// Own address, then records of kind, length (2) and octets: a line for each.
-pub fn replay(input: &[u8]) -> String {
-    let mut lines = String::new();
-    if input.len() < 3 {
-        return lines;
-    }
-    let mut receiver = History { own: number(&input[..3]), present: None };
-    let mut rest = &input[3..];
-    while !rest.is_empty() {
-        let length = if rest.len() < 3 { usize::MAX } else { number(&rest[1..3]) as usize };
-        if rest.len() < length.saturating_add(3) {
+/// Own address, then records of kind, length (2) and octets: a line for each when it is read.
+pub fn replay(mut from: impl Read, mut to: impl Write) -> Result<()> {
+    let own = next(&mut from, 3)?;
+    let mut receiver = History { own: number(&own), present: None };
+    while own.len() == 3 {
+        let head = next(&mut from, 3)?;
+        let length = if head.len() < 3 { 0 } else { number(&head[1..]) as usize };
+        let octets = next(&mut from, length)?;
+        if head.len() < 3 || octets.len() < length {
             // cut short by the end of input
-            if !wrong(Wrong::CutRecordSilent) {
-                lines += "1\n";
+            if !head.is_empty() && !wrong(Wrong::CutRecordSilent) {
+                writeln!(to, "1")?;
             }
             break;
         }
-        let (kind, octets) = (rest[0], &rest[3..3 + length]);
-        rest = &rest[3 + length..];
-        lines += &match kind {
-            0 => line(receiver.on_header(octets)),
-            1 => line(receiver.on_block(octets)),
+        let line = match head[0] {
+            0 => line(receiver.on_header(&octets)),
+            1 => line(receiver.on_block(&octets)),
             2 if octets.is_empty() => line(receiver.on_end()),
             // a restart changes nothing: the store's octets before it are of no matter
             3 if octets.len() == RESTART => format!("restored {}", hex(&save(&receiver, number(&octets[..2]) as u16))),
             _ => line(Err(SIZE)),
         };
-        lines += "\n";
+        writeln!(to, "{line}")?;
     }
-    lines
+    Ok(())
 }

@@ -1,7 +1,7 @@
 // Reads the own address (3 octets) and then datagrams of 53 from standard input. For each a line with its index from 0 and its number, 0
 // for none; leftover octets are one more datagram. Then `end` with the numbers of datagrams, messages and refusals.
 ghost use mathlib.Core.Path.{_≡_};
-ghost use Prim.Native.Nat.{_+_, _*_, _≤_};
+ghost use Prim.Native.Nat.{_+_, _*_, _-_, _≤_};
 ghost use lib.ListN.{length};
 use counting::Counts;
 use receiver_state::Receiver;
@@ -79,13 +79,12 @@ fn datagram_end(at: usize, size: usize) -> usize
     at + DATAGRAM
 }
 
-// The answers to a run of octets, at most MANY datagrams: their lines are written out.
-fn answer_all(g: Gateway, store: &mut [u8], octets: &[u8], text: &mut [u8]) -> Gateway
-    requires { ⌜ (length (now octets) ≤ 53 * 1024) × (length (now text) ≡ 48 * 1024) ⌝ }
+// The answers to the first octets, at most MANY datagrams: their lines are written out.
+fn answer_all(g: Gateway, store: &mut [u8], octets: &[u8], size: usize, text: &mut [u8]) -> Gateway
+    requires { ⌜ (size ≤ length (now octets)) × (size ≤ 53 * 1024) × (length (now text) ≡ 48 * 1024) ⌝ }
 {
     let mut now = g;
     let mut end: usize = 0;
-    let size = octets.len();
     let count = (size + DATAGRAM - 1) / DATAGRAM;
     let mut i: usize = 0;
     while i < count {
@@ -110,19 +109,46 @@ fn put_end(c: Counts) {
     io::write_all(libc::STDOUT_FILENO, b"\n");
 }
 
-// A proved loop has to end, and nothing says that the input does: the turns are counted down from a number that no run uses up.
+// What there is to read now, put behind the first octets: how many more, 0 at the end of the input.
+fn read_behind(input: &mut [u8], first: usize) -> usize
+    requires { ⌜ first ≤ length (now input) ⌝ }
+    ensures { λ r. ⌜ first + r ≤ length (now (input .entry)) ⌝ }
+{
+    let got = libc::read(libc::STDIN_FILENO, &mut input[first..]);
+    io::count(got, &input[first..])
+}
+
+// Octets at .. end become the first ones: how many these are.
+fn to_front(input: &mut [u8], at: usize, end: usize) -> usize
+    requires { ⌜ (at ≤ end) × (end ≤ length (now input)) ⌝ }
+    ensures { λ r. ⌜ r ≡ end - at ⌝ }
+{
+    let mut i: usize = at;
+    while i < end {
+        input[i - at] = input[i];
+        i += 1;
+    }
+    end - at
+}
+
+// Each datagram is answered when its last octet is read, and not when the input ends. A proved loop has to end, and nothing says that the
+// input does: the turns are counted down from a number that no run uses up.
 fn run(g: Gateway) -> Gateway {
     let mut store = [0u8; STORE];
     let mut input = [0u8; INPUT];
     let mut text = [0u8; TEXT];
     let mut now = g;
+    let mut begun: usize = 0;
     let mut turns = u64::MAX;
     while 0 < turns {
-        let n = io::read_full(libc::STDIN_FILENO, &mut input);
-        now = answer_all(now, &mut store, &input[..n], &mut text);
-        if n < INPUT {
-            return now;
+        let more = read_behind(&mut input, begun);
+        let size = begun + more;
+        if more == 0 {
+            return answer_all(now, &mut store, &input, size, &mut text);
         }
+        let whole = size - size % DATAGRAM;
+        now = answer_all(now, &mut store, &input, whole, &mut text);
+        begun = to_front(&mut input, whole, size);
         turns -= 1;
     }
     now

@@ -10,11 +10,11 @@ use Rattle.gateway.proofs.answer_all.Statement.{statement}
 use Rattle.gateway.proofs.answer_all.Tie as tie
 
 abbrev Inv-loop : tie.InvT-loop
-Inv-loop store₀ octets text₀ now₀ end₀ size count i₀ store text now end i = (size ≡ length octets) × (size ≤ 53 * 1024) × (count ≡ (size + 52) / 53) × (i ≤ count) × (end ≤ 48 * i)
+Inv-loop store₀ octets size text₀ now₀ end₀ count i₀ store text now end i = (size ≤ length octets) × (size ≤ 53 * 1024) × (count ≡ (size + 52) / 53) × (i ≤ count) × (end ≤ 48 * i)
     × (length text ≡ 48 * 1024) × (length text ≡ length text₀) × (length store ≡ length store₀)
 
 abbrev μ-loop : tie.MeasureT-loop
-μ-loop store₀ octets text₀ now₀ end₀ size count i₀ store text now end i = count - i
+μ-loop store₀ octets size text₀ now₀ end₀ count i₀ store text now end i = count - i
 
 add-count : tie.Need-add-count Inv-loop μ-loop
 add-count c = search needs
