@@ -3,13 +3,13 @@
 use mathlib.Core.Path.{sym}
 use Rattle.bursts.specs.BurstClaims.{BurstClaims}
 use Rattle.bursts.proofs.Numbers.{write-good}
-use Rattle.bursts.proofs.ReadingBack.{reads-back, corrects}
+use Rattle.bursts.proofs.ReadingBack.{reads-back, comes-back}
 use Rattle.bursts.proofs.Rows.{zero, one, four, five, six, seven, no-other, sixteen}
 
 pub bursts : BurstClaims
 bursts = record {
   reads-back = reads-back;
-  corrects = corrects;
+  comes-back = comes-back;
   zero = zero;
   one = one;
   four = four;

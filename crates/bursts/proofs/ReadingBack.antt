@@ -2,7 +2,7 @@
 -- that the codes put right.
 -- Assumes nothing.
 use mathlib.Core.Path.{_≡_, refl, sym, ap, ap₂, subst, _∙_}
-use mathlib.Core.Bool.{true}
+use mathlib.Core.Bool.{Bool, true, false}
 use mathlib.Core.List.{List}
 use Prim.Native.Nat.{ℕ, _+_, _*_, _-_, _/_, _%_, _^_, _≤_, _<_}
 use native.Mathlib.Decide.{decLt}
@@ -18,15 +18,17 @@ use Rattle.codes.specs.Field.{plainAt, information, product, plain, sentBits, s
 use Rattle.codes.proofs.SlotWords.{slotWord-lt}
 use Rattle.codes.proofs.FieldReading.{information-bits, plain-bits, corrects-field, field-back}
 use Rattle.codes.proofs.Product.{product-bits}
-use Rattle.bursts.specs.Bursts.{kindOf, known, slotBits, fieldOf, readBurst, syncWord, burstBits, writtenBurst}
+use Rattle.bursts.specs.Bursts.{kindOf, known, slotBits, fieldOf, readBurst, syncWord, burstBits, writtenBurst, writeBurst}
+use Rattle.bursts.specs.BurstClaims.{BurstComesBack}
 use Rattle.bursts.specs.Parts.{fieldRun}
 use Rattle.bursts.specs.declared.burst.Burst.{Burst}
+use Rattle.bursts.specs.declared.burst.BurstOctets.{BurstOctets}
 use Rattle.bursts.specs.declared.burst.Sync.{Sync}
 use Rattle.bursts.proofs.RunParts.{number-octets, octetBit-past, length-octets}
 use Rattle.bursts.proofs.DataTypes.{known-lt}
 use Rattle.bursts.proofs.Reading.{slot-halves, field-behind}
 use Rattle.bursts.proofs.Writing.{burst-bits, in-field, in-slot, in-slot-end, in-field-end}
-use Rattle.bursts.proofs.Numbers.{field-read, near-slot, contents-read}
+use Rattle.bursts.proofs.Numbers.{field-read, near-slot, contents-read, write-wide, write-other, write-good}
 
 pub field-length : (b : List ℕ) → length (fieldOf b) ≡ 25
 unfolding fieldOf
@@ -134,14 +136,21 @@ module _ (colour type : ℕ) (info : List ℕ) (small : colour < 16) (kind : kno
       rest : (16 * colour + type) % 16 ≡ type
       rest = omega (arith, low)
 
-pub corrects : (colour type : ℕ) (info b : List ℕ) → colour < 16 → known (kindOf type) ≡ true → length info ≡ 12
+corrects : (colour type : ℕ) (info b : List ℕ) → colour < 16 → known (kindOf type) ≡ true → length info ≡ 12
     → ((j : ℕ) → getD info j 0 < 256)
     → length b ≡ 33 → distance (slotBits b) (slotWord (16 * colour + type)) ≤ 3 → Correctable (writtenField info) (fieldOf b)
     → readBurst b ≡ record { number = 0; colour = colour; datatype = type; info = info }
 corrects colour type info b small kind size octet h near few =
     reads colour type info small kind b h near (corrects-field info (fieldOf b) size octet (field-length b) few)
 
-distance-self : (w : ℕ) → distance w w ≡ 0
+pub comes-back : (colour type : ℕ) (info : List ℕ) (sync : Sync) → colour < 16 → known (kindOf type) ≡ true → length info ≡ 12
+    → ((j : ℕ) → getD info j 0 < 256) → BurstComesBack colour type info (writtenBurst colour type info sync)
+comes-back colour type info sync small kind size octet b h near few =
+    corrects colour type info b small kind size octet h
+    (subst (λ (w : ℕ). distance (slotBits b) w ≤ 3) (written-slot colour type info sync small (known-lt type kind)) near)
+    (subst (λ (f : List ℕ). Correctable f (fieldOf b)) (written-field colour type info sync) few)
+
+pub distance-self : (w : ℕ) → distance w w ≡ 0
 unfolding distance ones
 distance-self w = ap ones (xor-self w)
 
@@ -152,3 +161,15 @@ reads-back colour type info sync small kind size octet =
     reads colour type info small kind (writtenBurst colour type info sync) (written-length colour type info sync)
     (rw (written-slot colour type info sync small (known-lt type kind), distance-self) (omega arith))
     (ap readField (written-field colour type info sync) ∙ field-back info size octet)
+
+-- whatever the writer answers without a number comes back
+pub answer-back : (colour type : ℕ) (info : List ℕ) (sync : Sync) → length info ≡ 12 → ((j : ℕ) → getD info j 0 < 256) → (r : BurstOctets)
+    → r ≡ writeBurst colour type info sync → r .number ≡ 0 → BurstComesBack colour type info (r .octets)
+answer-back colour type info sync size octet r is none = go (decLt colour 16) (known (kindOf type)) refl
+  where
+    go : Dec (colour < 16) → (k : Bool) → known (kindOf type) ≡ k → BurstComesBack colour type info (r .octets)
+    go (yes small) true k =
+        subst (λ (x : BurstOctets). BurstComesBack colour type info (x .octets)) (write-good colour type info sync small k ∙ sym is)
+        (comes-back colour type info sync small k size octet)
+    go (yes small) false k = let e : r .number ≡ 16 = ap (λ (x : BurstOctets). x .number) (is ∙ sym (write-other colour type info sync small k)) in absurd (omega arith)
+    go (no wide) t k = let e : r .number ≡ 16 = ap (λ (x : BurstOctets). x .number) (is ∙ sym (write-wide colour type info sync (omega arith))) in absurd (omega arith)

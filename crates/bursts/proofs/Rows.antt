@@ -24,10 +24,10 @@ use Rattle.bursts.proofs.Numbers.{slot-read, near-slot, field-read, num
 use Rattle.bursts.proofs.ReadingBack.{field-length}
 
 -- the numbers of a block field of 25 octets
-abbrev FieldNumber : ℕ → Type 0
+abbrev pub FieldNumber : ℕ → Type 0
 FieldNumber n = (n ≡ 0) ⊎ (n ≡ 6) ⊎ (n ≡ 7)
 
-field-numbers : (f : List ℕ) → length f ≡ 25 → FieldNumber (fieldNumber f)
+pub field-numbers : (f : List ℕ) → length f ≡ 25 → FieldNumber (fieldNumber f)
 unfolding fieldNumber firstFailed matrixTests
 field-numbers f h = rw (eq-eqb (length f) 25 h) (go (rowsGood m) (columnsGood m) (reservedClear m))
   where
@@ -41,7 +41,7 @@ field-numbers f h = rw (eq-eqb (length f) 25 h) (go (rowsGood m) (columnsGood m)
     go false y z = inr (inl refl)
 
 -- none of them is another row's
-excluded : (n k : ℕ) → FieldNumber n → 0 < k → k < 6 → n ≡ k → ⊥
+pub excluded : (n k : ℕ) → FieldNumber n → 0 < k → k < 6 → n ≡ k → ⊥
 excluded n k (inl e) p q f = omega arith
 excluded n k (inr (inl e)) p q f = omega arith
 excluded n k (inr (inr e)) p q f = omega arith

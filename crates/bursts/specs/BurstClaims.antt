@@ -4,10 +4,10 @@ use mathlib.Core.Path.{_≡_}
 use mathlib.Core.Bool.{true, false}
 use mathlib.Core.List.{List}
 use mathlib.Core.Logic.{_≢_, _⊎_, _↔_}
-use Prim.Native.Nat.{ℕ, _+_, _*_, _%_, _≤_, _<_}
+use Prim.Native.Nat.{ℕ, _%_, _≤_, _<_}
 use lib.ListN.{length, getD}
 use Rattle.codes.specs.SlotWord.{slotWord, distance}
-use Rattle.codes.specs.Field.{writtenField, fieldNumber, Correctable}
+use Rattle.codes.specs.Field.{fieldNumber, Correctable}
 use Rattle.bursts.specs.Bursts.{kindOf, known, slotBits, fieldOf, readBurst, writtenBurst, writeBurst}
 use Rattle.bursts.specs.declared.burst.Sync.{Sync}
 
@@ -27,16 +27,21 @@ OtherType b = (length b ≡ 33) × (d : ℕ) × Near b d × (known (kindOf (d % 
 abbrev pub FieldGives : ℕ → List ℕ → Type 0
 FieldGives n b = (length b ≡ 33) × (d : ℕ) × Near b d × (known (kindOf (d % 16)) ≡ true) × (fieldNumber (fieldOf b) ≡ n)
 
+-- the burst `sent`, with at most three wrong slot-type bits and a block field in which at most one of the 15 columns holds more than one
+-- wrong bit, comes back with this colour code, data type and information
+abbrev pub BurstComesBack : ℕ → ℕ → List ℕ → List ℕ → Type 0
+BurstComesBack colour type info sent =
+    (b : List ℕ) → length b ≡ 33 → distance (slotBits b) (slotBits sent) ≤ 3 → Correctable (fieldOf sent) (fieldOf b)
+    → readBurst b ≡ record { number = 0; colour = colour; datatype = type; info = info }
+
 pub record BurstClaims : Type 0 where
   -- what is written reads back
   pub reads-back : (colour type : ℕ) (info : List ℕ) (sync : Sync) → colour < 16 → known (kindOf type) ≡ true → length info ≡ 12
       → ((j : ℕ) → getD info j 0 < 256)
       → readBurst (writtenBurst colour type info sync) ≡ record { number = 0; colour = colour; datatype = type; info = info }
-  -- so does a burst with at most three wrong slot-type bits and a block field in which at most one column holds more than one wrong bit
-  pub corrects : (colour type : ℕ) (info b : List ℕ) → colour < 16 → known (kindOf type) ≡ true → length info ≡ 12
-      → ((j : ℕ) → getD info j 0 < 256)
-      → length b ≡ 33 → distance (slotBits b) (slotWord (16 * colour + type)) ≤ 3 → Correctable (writtenField info) (fieldOf b)
-      → readBurst b ≡ record { number = 0; colour = colour; datatype = type; info = info }
+  -- also with wrong bits
+  pub comes-back : (colour type : ℕ) (info : List ℕ) (sync : Sync) → colour < 16 → known (kindOf type) ≡ true → length info ≡ 12
+      → ((j : ℕ) → getD info j 0 < 256) → BurstComesBack colour type info (writtenBurst colour type info sync)
   -- each number of reading is given exactly if its row is true, and there are no others
   pub zero : (b : List ℕ) → (readBurst b .number ≡ 0) ↔ FieldGives 0 b
   pub one : (b : List ℕ) → (readBurst b .number ≡ 1) ↔ (length b ≢ 33)

@@ -4,6 +4,7 @@ ghost use lib.ListN.{length};
 ghost use Prim.Native.Nat.{_*_, _%_, _<_};
 ghost use Rattle.polynomials.specs.Bits.{number, octets};
 ghost use Rattle.bursts.specs.Bursts.{kindOf, slotBits, fieldOf, burstSlot, burstField, refusedBurst, readBurst, syncWord, burstBits, writtenBurst, writeBurst};
+ghost use Rattle.bursts.specs.BurstClaims.{BurstComesBack};
 ghost use Rattle.bursts.specs.Parts.{fieldRun, Typed};
 use codes::block_field::BlockField;
 use codes::slot_type::SlotType;
@@ -226,9 +227,9 @@ fn written(colour: u8, datatype: u8, info: [u8; 12], sync: Sync) -> [u8; 33]
     burst_octets(&f, slot, sync_bits(sync))
 }
 
-// Writes a burst.
+// Writes a burst. With wrong bits that the codes put right it comes back.
 pub fn write(colour: u8, datatype: u8, info: [u8; 12], sync: Sync) -> BurstOctets
-    ensures { λ r. ⌜ r ≡ writeBurst colour datatype info sync ⌝ }
+    ensures { λ r. ⌜ (r ≡ writeBurst colour datatype info sync) × (r .number ≡ 0 → BurstComesBack colour datatype info (r .octets)) ⌝ }
 {
     if 16 <= colour {
         return BurstOctets {

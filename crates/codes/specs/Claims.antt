@@ -11,9 +11,17 @@ use Rattle.codes.specs.Hamming.{syndrome, withParity, power, corrected, 
 use Rattle.codes.specs.Field.{sentAt, plainAt, writtenField, readField, Correctable}
 use Rattle.codes.specs.declared.slot_type.SlotType.the-variants.{Data, NoCodeword, TooWide}
 
+-- the word `sent` with at most 3 wrong bits comes back as d
+abbrev pub SlotComesBack : ℕ → ℕ → Type 0
+SlotComesBack d sent = (w : ℕ) → w < 2 ^ 20 → distance w sent ≤ 3 → readSlotType w ≡ Data d
+
+-- the field `sent`, with wrong bits of which more than one stand in at most one of the 15 columns, comes back as os
+abbrev pub FieldComesBack : List ℕ → List ℕ → Type 0
+FieldComesBack os sent = (f : List ℕ) → length f ≡ 25 → Correctable sent f → readField f ≡ record { number = 0; info = os }
+
 pub record SlotTypeClaims : Type 0 where
-  -- a word at a distance of at most 3 from the codeword of d reads as d
-  pub near-reads : (d w : ℕ) → d < 256 → w < 2 ^ 20 → distance w (slotWord d) ≤ 3 → readSlotType w ≡ Data d
+  -- the codeword of d with at most 3 wrong bits comes back as d
+  pub comes-back : (d : ℕ) → d < 256 → SlotComesBack d (slotWord d)
   -- a word reads as d only if it is that near
   pub reads-near : (w d : ℕ) → readSlotType w ≡ Data d → (d < 256) × (w < 2 ^ 20) × (distance w (slotWord d) ≤ 3)
   -- the least distance of two codewords is 8
@@ -45,8 +53,7 @@ pub record BlockFieldClaims : Type 0 where
   -- what is written reads back
   pub reads-back : (os : List ℕ) → length os ≡ 12 → ((j : ℕ) → getD os j 0 < 256) → readField (writtenField os) ≡ record { number = 0; info = os }
   -- so does a field in which at most one of the 15 columns holds more than one wrong bit
-  pub corrects : (os f : List ℕ) → length os ≡ 12 → ((j : ℕ) → getD os j 0 < 256) → length f ≡ 25 → Correctable (writtenField os) f
-      → readField f ≡ record { number = 0; info = os }
+  pub comes-back : (os : List ℕ) → length os ≡ 12 → ((j : ℕ) → getD os j 0 < 256) → FieldComesBack os (writtenField os)
 
 pub record CodesClaims : Type 0 where
   pub slotTypes : SlotTypeClaims

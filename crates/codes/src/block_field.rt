@@ -5,6 +5,7 @@ ghost use lib.ListN.{length, getD};
 ghost use Rattle.polynomials.specs.Bits.{digits, octetBit, zeros, followed, number, tabulate};
 ghost use Rattle.codes.specs.Hamming.{syndrome, withParity};
 ghost use Rattle.codes.specs.Field.{information, product, plain, sent, writtenField, received, columnsGood, infoBit, infoOctets, readField};
+ghost use Rattle.codes.specs.Claims.{FieldComesBack};
 ghost use Rattle.codes.specs.Words.{cell, column, matrixNumber, Sliced, ColumnsRight, RowRight, RowsRight, dataRows, PlainBits, sentRun};
 
 // What is read from a block field: number 0 and the information, or the number of the refusal and zeros.
@@ -331,9 +332,10 @@ fn sent_octets(p: &[u8; 196]) -> [u8; 25]
     f
 }
 
-// The 25 octets of the block field for 12 octets of information.
+// The 25 octets of the block field for 12 octets of information. They come back with wrong bits of which more than one stand in at most
+// one of the 15 columns.
 pub fn write(info: [u8; 12]) -> [u8; 25]
-    ensures { λ r. ⌜ r ≡ writtenField info ⌝ }
+    ensures { λ r. ⌜ (r ≡ writtenField info) × FieldComesBack info r ⌝ }
 {
     let p = plain_order(matrix(info));
     sent_octets(&p)

@@ -6,8 +6,6 @@ use mathlib.Core.Bool.{true}
 use mathlib.Core.List.{List, _++_}
 use Prim.Native.Nat.{ℕ, _+_, _*_, _/_, _%_, _^_, _≤_, _<_}
 use native.Mathlib.Omega.{arith}
-use lib.Bits.{xor-self}
-use lib.Count.{ones}
 use lib.Dec.{lit<}
 use lib.ListN.{length, getD, take, drop, length-append, length-drop}
 use lib.Seq.{getD-take, take-at, drop-at}
@@ -17,13 +15,13 @@ use Rattle.codes.proofs.Tests.{all-eq}
 use Rattle.codes.proofs.FieldReading.{corrects-field, field-back}
 use Rattle.bursts.specs.Bursts.{kindOf, known, slotBits, fieldOf, writtenBurst}
 use Rattle.datagrams.specs.Datagrams.{prefix, prefixed, frameOf, namedType, burstOf, labelsOf, readDatagram, labelOctets, writtenDatagram}
-use Rattle.datagrams.specs.DatagramClaims.{Fits}
+use Rattle.datagrams.specs.DatagramClaims.{Fits, DatagramComesBack}
 use Rattle.bursts.specs.declared.burst.Sync.{Sync}
 use Rattle.datagrams.specs.declared.Datagram.{Datagram}
 use Rattle.datagrams.specs.declared.Labels.{Labels}
 use Rattle.bursts.proofs.DataTypes.{known-lt}
 use Rattle.bursts.proofs.Numbers.{field-read, near-slot}
-use Rattle.bursts.proofs.ReadingBack.{field-length, written-length, written-slot, written-field}
+use Rattle.bursts.proofs.ReadingBack.{field-length, written-length, written-slot, written-field, distance-self}
 use Rattle.datagrams.proofs.DatagramNumbers.{letters-same, contents-read}
 
 -- the numbers of three and four octets
@@ -122,7 +120,7 @@ module _ (l : Labels) (colour type : ℕ) (info : List ℕ) (fits : Fits l) (sma
       rest : (16 * colour + type) % 16 ≡ type
       rest = omega (arith, low)
 
-pub corrects : (l : Labels) (colour type : ℕ) (info d : List ℕ) → Fits l → colour < 16 → known (kindOf type) ≡ true → length info ≡ 12
+corrects : (l : Labels) (colour type : ℕ) (info d : List ℕ) → Fits l → colour < 16 → known (kindOf type) ≡ true → length info ≡ 12
     → ((j : ℕ) → getD info j 0 < 256)
     → length d ≡ 53 → take 20 d ≡ labelOctets l type → distance (slotBits (burstOf d)) (slotWord (16 * colour + type)) ≤ 3
     → Correctable (writtenField info) (fieldOf (burstOf d))
@@ -130,25 +128,40 @@ pub corrects : (l : Labels) (colour type : ℕ) (info d : List ℕ) → Fits l �
 corrects l colour type info d fits small kind size octets h same near few =
     reads l colour type info fits small kind d h same near (corrects-field info (fieldOf (burstOf d)) size octets (field-length (burstOf d)) few)
 
-distance-self : (w : ℕ) → distance w w ≡ 0
-unfolding distance ones
-distance-self w = ap ones (xor-self w)
+-- what is written: its first 20 octets, and the burst behind them
+module _ (l : Labels) (colour type : ℕ) (info : List ℕ) (sync : Sync) where
+  head : List ℕ
+  head = labelOctets l type
 
-pub reads-back : (l : Labels) (colour type : ℕ) (info : List ℕ) (sync : Sync) → Fits l → colour < 16 → known (kindOf type) ≡ true
-    → length info ≡ 12 → ((j : ℕ) → getD info j 0 < 256)
-    → readDatagram (writtenDatagram l colour type info sync) ≡ record { number = 0; labels = l; colour = colour; datatype = type; info = info }
-unfolding writtenDatagram
-reads-back l colour type info sync fits small kind size octets =
-    reads l colour type info fits small kind (head ++ burst) (omega (arith, length-append head burst, labels-length l type, written-length colour type info sync))
-    (take-at head burst 20 (labels-length l type))
-    (rw (behind, written-slot colour type info sync small (known-lt type kind), distance-self) (omega arith))
-    (ap (λ (b : List ℕ). readField (fieldOf b)) behind ∙ ap readField (written-field colour type info sync) ∙ field-back info size octets)
-  where
-    head : List ℕ
-    head = labelOctets l type
+  burst : List ℕ
+  burst = writtenBurst colour type info sync
 
-    burst : List ℕ
-    burst = writtenBurst colour type info sync
+  written-size : length (writtenDatagram l colour type info sync) ≡ 53
+  unfolding writtenDatagram head burst
+  written-size = omega (arith, length-append head burst, labels-length l type, written-length colour type info sync)
 
-    behind : drop 20 (head ++ burst) ≡ burst
-    behind = drop-at head burst 20 (labels-length l type)
+  written-head : take 20 (writtenDatagram l colour type info sync) ≡ labelOctets l type
+  unfolding writtenDatagram head burst
+  written-head = take-at head burst 20 (labels-length l type)
+
+  written-burst : burstOf (writtenDatagram l colour type info sync) ≡ writtenBurst colour type info sync
+  unfolding writtenDatagram head burst
+  written-burst = drop-at head burst 20 (labels-length l type)
+
+  module _ (fits : Fits l) (small : colour < 16) (kind : known (kindOf type) ≡ true) (size : length info ≡ 12)
+      (octets : (j : ℕ) → getD info j 0 < 256) where
+    slot : slotBits (burstOf (writtenDatagram l colour type info sync)) ≡ slotWord (16 * colour + type)
+    slot = ap slotBits written-burst ∙ written-slot colour type info sync small (known-lt type kind)
+
+    field : fieldOf (burstOf (writtenDatagram l colour type info sync)) ≡ writtenField info
+    field = ap fieldOf written-burst ∙ written-field colour type info sync
+
+    pub reads-back : readDatagram (writtenDatagram l colour type info sync) ≡ record { number = 0; labels = l; colour = colour; datatype = type; info = info }
+    reads-back =
+        reads l colour type info fits small kind (writtenDatagram l colour type info sync) written-size written-head (rw (slot, distance-self) (omega arith))
+        (ap readField field ∙ field-back info size octets)
+
+    pub comes-back : DatagramComesBack l colour type info (writtenDatagram l colour type info sync)
+    comes-back d h same near few =
+        corrects l colour type info d fits small kind size octets h (same ∙ written-head) (subst (λ (w : ℕ). distance (slotBits (burstOf d)) w ≤ 3) slot near)
+        (subst (λ (f : List ℕ). Correctable f (fieldOf (burstOf d))) field few)

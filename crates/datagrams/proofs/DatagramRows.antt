@@ -13,7 +13,7 @@ use lib.Seq.{length-take-le, getD-take, ext-getD}
 use borrow.Author.Tests.{eq-eqb, lt-ltb}
 use Rattle.codes.specs.Order.{firstFailed}
 use Rattle.codes.specs.SlotWord.{readSlotType, slotNumber}
-use Rattle.codes.specs.Field.{correctedField, rowsGood, columnsGood, reservedClear, matrixTests, fieldNumber, readField}
+use Rattle.codes.specs.Field.{fieldNumber, readField}
 use Rattle.codes.specs.declared.slot_type.SlotType.{SlotType}
 use Rattle.codes.specs.declared.slot_type.SlotType.the-variants.{Data, NoCodeword, TooWide}
 use Rattle.codes.proofs.SlotReading.{reads-near}
@@ -28,31 +28,9 @@ use Rattle.datagrams.specs.declared.Labels.{Labels}
 use Rattle.bursts.proofs.Variants.{slotGood}
 use Rattle.bursts.proofs.Numbers.{slot-read, near-slot, field-read, write-good}
 use Rattle.bursts.proofs.ReadingBack.{field-length}
+use Rattle.bursts.proofs.Rows.{FieldNumber, field-numbers, excluded}
 use Rattle.datagrams.proofs.DatagramNumbers.{letters-same, letters-at, number-size, number-prefix, number-frame, number-slot, number-differs, number-other, number-field, read-number}
 use Rattle.datagrams.proofs.DatagramWriting.{call-decides, write-joined}
-
--- the numbers of a block field of 25 octets
-abbrev FieldNumber : ℕ → Type 0
-FieldNumber n = (n ≡ 0) ⊎ (n ≡ 6) ⊎ (n ≡ 7)
-
-field-numbers : (f : List ℕ) → length f ≡ 25 → FieldNumber (fieldNumber f)
-unfolding fieldNumber firstFailed matrixTests
-field-numbers f h = rw (eq-eqb (length f) 25 h) (go (rowsGood m) (columnsGood m) (reservedClear m))
-  where
-    m : ℕ → ℕ → ℕ
-    m = correctedField f
-
-    go : (x y z : Bool) → FieldNumber (cond x (cond y (cond z 0 7) 6) 6)
-    go true true true = inl refl
-    go true true false = inr (inr refl)
-    go true false z = inr (inl refl)
-    go false y z = inr (inl refl)
-
--- none of them is another row's
-excluded : (n k : ℕ) → FieldNumber n → 0 < k → k < 6 → n ≡ k → ⊥
-excluded n k (inl e) p q f = omega arith
-excluded n k (inr (inl e)) p q f = omega arith
-excluded n k (inr (inr e)) p q f = omega arith
 
 module _ (d : List ℕ) where
   -- the prefix as four octets

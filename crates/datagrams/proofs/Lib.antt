@@ -3,3 +3,4 @@ pub mod DatagramWriting
 pub mod DatagramBack
 pub mod DatagramRows
 pub mod DatagramClaims
+pub mod AnswerBack

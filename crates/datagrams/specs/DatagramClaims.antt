@@ -4,13 +4,13 @@ use mathlib.Core.Path.{_≡_}
 use mathlib.Core.Bool.{true, false}
 use mathlib.Core.List.{List}
 use mathlib.Core.Logic.{_≢_, _⊎_, _↔_}
-use Prim.Native.Nat.{ℕ, _+_, _*_, _%_, _^_, _≤_, _<_}
+use Prim.Native.Nat.{ℕ, _%_, _^_, _≤_, _<_}
 use lib.ListN.{length, getD, take}
-use Rattle.codes.specs.SlotWord.{slotWord, distance}
-use Rattle.codes.specs.Field.{writtenField, fieldNumber, Correctable}
+use Rattle.codes.specs.SlotWord.{distance}
+use Rattle.codes.specs.Field.{fieldNumber, Correctable}
 use Rattle.bursts.specs.Bursts.{kindOf, known, slotBits, fieldOf}
 use Rattle.bursts.specs.BurstClaims.{Near}
-use Rattle.datagrams.specs.Datagrams.{prefix, nextSequence, frameOf, namedType, burstOf, datagramNumber, readDatagram, labelOctets, writtenDatagram, writeDatagram}
+use Rattle.datagrams.specs.Datagrams.{prefix, nextSequence, frameOf, namedType, burstOf, datagramNumber, readDatagram, writtenDatagram, writeDatagram}
 use Rattle.bursts.specs.declared.burst.Sync.{Sync}
 use Rattle.datagrams.specs.declared.Labels.{Labels}
 
@@ -55,6 +55,14 @@ abbrev pub Outside : Labels → ℕ → ℕ → Type 0
 Outside l colour type =
     (2 ^ 24 ≤ l .source .0) ⊎ (2 ^ 24 ≤ l .target .0) ⊎ (2 ≤ l .timeslot) ⊎ (2 ≤ l .call) ⊎ (16 ≤ colour) ⊎ (known (kindOf type) ≡ false)
 
+-- the datagram `sent`, with its first 20 octets as they are, at most three wrong slot-type bits and a block field in which at most one of the
+-- 15 columns holds more than one wrong bit, comes back with these labels, colour code, data type and information
+abbrev pub DatagramComesBack : Labels → ℕ → ℕ → List ℕ → List ℕ → Type 0
+DatagramComesBack l colour type info sent =
+    (d : List ℕ) → length d ≡ 53 → take 20 d ≡ take 20 sent → distance (slotBits (burstOf d)) (slotBits (burstOf sent)) ≤ 3
+    → Correctable (fieldOf (burstOf sent)) (fieldOf (burstOf d))
+    → readDatagram d ≡ record { number = 0; labels = l; colour = colour; datatype = type; info = info }
+
 pub record DatagramClaims : Type 0 where
   -- the sequence counter goes from 255 to 0
   pub wraps : nextSequence 255 ≡ 0
@@ -62,13 +70,9 @@ pub record DatagramClaims : Type 0 where
   pub reads-back : (l : Labels) (colour type : ℕ) (info : List ℕ) (sync : Sync) → Fits l → colour < 16 → known (kindOf type) ≡ true
       → length info ≡ 12 → ((j : ℕ) → getD info j 0 < 256)
       → readDatagram (writtenDatagram l colour type info sync) ≡ record { number = 0; labels = l; colour = colour; datatype = type; info = info }
-  -- so does a datagram with these labels, at most three wrong slot-type bits and a block field in which at most one column holds more than
-  -- one wrong bit
-  pub corrects : (l : Labels) (colour type : ℕ) (info d : List ℕ) → Fits l → colour < 16 → known (kindOf type) ≡ true → length info ≡ 12
-      → ((j : ℕ) → getD info j 0 < 256)
-      → length d ≡ 53 → take 20 d ≡ labelOctets l type → distance (slotBits (burstOf d)) (slotWord (16 * colour + type)) ≤ 3
-      → Correctable (writtenField info) (fieldOf (burstOf d))
-      → readDatagram d ≡ record { number = 0; labels = l; colour = colour; datatype = type; info = info }
+  -- also with wrong bits
+  pub comes-back : (l : Labels) (colour type : ℕ) (info : List ℕ) (sync : Sync) → Fits l → colour < 16 → known (kindOf type) ≡ true
+      → length info ≡ 12 → ((j : ℕ) → getD info j 0 < 256) → DatagramComesBack l colour type info (writtenDatagram l colour type info sync)
   -- each number of reading is given exactly if its row is true, and there are no others
   pub numbered : (d : List ℕ) → readDatagram d .number ≡ datagramNumber d
   pub zero : (d : List ℕ) → (readDatagram d .number ≡ 0) ↔ FieldOf 0 d

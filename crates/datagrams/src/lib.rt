@@ -5,6 +5,7 @@ ghost use mathlib.Core.List.{_++_};
 ghost use Prim.Native.Nat.{_<_};
 ghost use lib.ListN.{length, getD};
 ghost use Rattle.datagrams.specs.Datagrams.{nextSequence, prefixed, labelsOf, refusedDatagram, readDatagram, labelOctets, writeDatagram};
+ghost use Rattle.datagrams.specs.DatagramClaims.{DatagramComesBack};
 ghost use Rattle.datagrams.specs.DatagramParts.{Slotted, Kinded, labelsFit};
 use addresses::RadioAddress;
 use addresses::RepeaterNumber;
@@ -227,9 +228,9 @@ fn joined(labels: &[u8], burst: &[u8]) -> [u8; 53]
     d
 }
 
-// Writes a datagram with its burst.
+// Writes a datagram with its burst. With wrong bits in the burst that the codes put right it comes back.
 pub fn write(labels: Labels, colour: u8, datatype: u8, info: [u8; 12], sync: Sync) -> DatagramOctets
-    ensures { λ r. ⌜ r ≡ writeDatagram labels colour datatype info sync ⌝ }
+    ensures { λ r. ⌜ (r ≡ writeDatagram labels colour datatype info sync) × (r .number ≡ 0 → DatagramComesBack labels colour datatype info (r .octets)) ⌝ }
 {
     if !labels_fit(labels) {
         return DatagramOctets {

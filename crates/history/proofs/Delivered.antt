@@ -21,8 +21,8 @@ use Rattle.messages.specs.declared.message.Delivery.{Delivery}
 use Rattle.packets.proofs.HeaderClaims.{claims as headers}
 use Rattle.packets.proofs.BlockClaims.{claims as blocks}
 use Rattle.messages.proofs.MessageClaims.{messages}
-use Rattle.packets.proofs.HeaderBack.{written-format, written-last, written-common, written-octets}
-use Rattle.packets.proofs.BlockBack.{written-length, written-good}
+use Rattle.packets.proofs.HeaderBack.{written-format, written-last, written-common, written-octets, reads-back as header-back}
+use Rattle.packets.proofs.BlockBack.{written-length, written-good, reads-back as block-back}
 use Rattle.transactions.specs.Transactions.{transactionOf, isFull, heardTests, heardNumber, repeats, serialOf, dataOf, takenTests, takenNumber, all}
 use Rattle.transactions.specs.Answers.{Said, opened, stored, message}
 use Rattle.transactions.specs.declared.header.Transaction.{Transaction}
@@ -59,7 +59,7 @@ module _ (m : List ℕ) (d : Delivery) (short : length m ≤ mostOctets) (within
 
   header-good : firstFailed (headerTests h) ≡ 0
   unfolding headerNumber
-  header-good = sym (headers .number h) ∙ ap headerNumber (headers .reads-back said fits)
+  header-good = sym (headers .number h) ∙ ap headerNumber (header-back said fits)
 
   heard : heardNumber (d .destination) h ≡ 0
   unfolding heardNumber heardTests attemptHeader isFull firstFailed
@@ -119,7 +119,7 @@ module _ (m : List ℕ) (d : Delivery) (short : length m ≤ mostOctets) (k : �
   unfolding serialOf dataOf
   kept-is =
       ap (λ (r : Block). record { number = r .serial; octets = r .octets })
-      (sym (blocks .fields b twelve check-good) ∙ blocks .reads-back k (blockData m k) narrow ten)
+      (sym (blocks .fields b twelve check-good) ∙ block-back k (blockData m k) narrow ten)
 
   serial : serialOf b ≡ k
   serial = ap (λ (j : Kept). j .number) kept-is

@@ -18,14 +18,15 @@ use Rattle.packets.specs.Headers.{headerMask, part, formatOf, commonOf, written
 use Rattle.packets.specs.Parts.{commonFields}
 use Rattle.messages.specs.MessageClaims.{Within}
 use Rattle.messages.specs.Responses.{replyCode, responseHeader, sackData, dataOf, writeResponse, isSack, responseNumber, refusedResponse, readResponse}
-use Rattle.messages.specs.ResponseClaims.{flagsOf, answerOf, GoodHeader, Outcome, header-size, header-check, header-format, block-size, block-check, header-alone, header-and-block}
+use Rattle.messages.specs.ResponseClaims.{flagsOf, answerOf, ResponseReadsBack, GoodHeader, Outcome, header-size, header-check, header-format, block-size, block-check, header-alone, header-and-block}
 use Rattle.messages.specs.Parts.{answerWith}
 use Rattle.messages.specs.declared.message.Delivery.{Delivery}
 use Rattle.messages.specs.declared.response.Reply.{Reply}
 use Rattle.messages.specs.declared.response.Reply.the-variants.{Ack, Nack, Sack}
 use Rattle.messages.specs.declared.response.ResponseAnswer.{ResponseAnswer}
+use Rattle.messages.specs.declared.response.ResponseOctets.{ResponseOctets}
 use Rattle.packets.proofs.HeaderWriting.{fits}
-use Rattle.packets.proofs.HeaderBack.{written-length, written-good, written-format, written-last, written-common, last-fits}
+use Rattle.packets.proofs.HeaderBack.{written-length, written-good, written-format, written-last, written-common, common-fits, last-fits}
 
 true-or-false : (t : Bool) → (t ≡ true) ⊎ (t ≡ false)
 true-or-false true = inl refl
@@ -212,8 +213,29 @@ module _ (d : Delivery) (flags : List ℕ) (w : Within d) where
       (outcome-number (headerOctets Sack d) (sackData flags) (header-and-block (good-header Sack d w) (sack-read Sack d w) (length-sackData flags n) (good-sackData flags)))
       (rw (sack-read Sack d w) (take-at flags (lowestFirst (messageCheck flags)) 8 n)))
 
-pub response-back : (r : Reply) (d : Delivery) (flags : List ℕ) → Within d → length flags ≡ 8
+response-back : (r : Reply) (d : Delivery) (flags : List ℕ) → Within d → length flags ≡ 8
     → readResponse (writeResponse r d flags .header) (writeResponse r d flags .block) ≡ answerOf r d flags
 response-back Ack d flags w n = ack-back d flags w (writeResponse Ack d flags .block)
 response-back Nack d flags w n = nack-back d flags w (writeResponse Nack d flags .block)
 response-back Sack d flags w n = sack-back d flags w n
+
+pub response-unwritten : (r : Reply) (d : Delivery) (flags : List ℕ) → widthNumber (responseHeader r d) ≢ 0
+    → writeResponse r d flags ≡ record { number = 16; header = replicate 12 0; blocks = 0; block = replicate 12 0 }
+unfolding writeResponse
+response-unwritten r d flags n = rw (ne-eqb (widthNumber (responseHeader r d)) 0 n)
+
+-- fields of a response that is written are within their widths
+header-within : (r : Reply) (d : Delivery) → widthNumber (responseHeader r d) ≡ 0 → Within d
+unfolding responseHeader
+header-within r d none =
+    let c = common-fits (responseHeader r d) none in
+    record { sap = c .sap; ns = last-fits (responseHeader r d) none .2; destination = c .destination; source = c .source }
+
+pub answer-back : (r : Reply) (d : Delivery) (flags : List ℕ) → length flags ≡ 8 → ResponseReadsBack r d flags (writeResponse r d flags)
+answer-back r d flags n none = go (ℕ-discrete (widthNumber (responseHeader r d)) 0)
+  where
+    go : Dec (widthNumber (responseHeader r d) ≡ 0) → readResponse (writeResponse r d flags .header) (writeResponse r d flags .block) ≡ answerOf r d flags
+    go (yes e) = response-back r d flags (header-within r d e) n
+    go (no e) =
+        let f : writeResponse r d flags .number ≡ 16 = ap (λ (x : ResponseOctets). x .number) (response-unwritten r d flags e) in
+        absurd (omega arith)

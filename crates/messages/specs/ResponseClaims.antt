@@ -14,6 +14,7 @@ use Rattle.messages.specs.declared.message.Delivery.{Delivery}
 use Rattle.messages.specs.declared.response.Reply.{Reply}
 use Rattle.messages.specs.declared.response.Reply.the-variants.{Ack, Nack, Sack}
 use Rattle.messages.specs.declared.response.ResponseAnswer.{ResponseAnswer}
+use Rattle.messages.specs.declared.response.ResponseOctets.{ResponseOctets}
 
 -- the flags that are read of a response written: only a SACK has any
 unfoldable pub flagsOf : Reply → List ℕ → List ℕ
@@ -33,6 +34,10 @@ answerOf r d flags = record {
   source = d .source;
   flags = flagsOf r flags;
 }
+
+-- an answer of the writer without a number reads back
+abbrev pub ResponseReadsBack : Reply → Delivery → List ℕ → ResponseOctets → Type 0
+ResponseReadsBack reply d flags r = r .number ≡ 0 → readResponse (r .header) (r .block) ≡ answerOf reply d flags
 
 -- octets that are the header of a response: 12 of them, with a good check, of format 1
 pub record GoodHeader (h : List ℕ) : Type 0 where
@@ -57,8 +62,7 @@ pub record ResponseClaims : Type 0 where
   pub too-wide : (r : Reply) (d : Delivery) (flags : List ℕ) → widthNumber (responseHeader r d) ≢ 0
       → writeResponse r d flags ≡ record { number = 16; header = replicate 12 0; blocks = 0; block = replicate 12 0 }
   -- what is written reads back, with the 8 flag octets of a SACK
-  pub reads-back : (r : Reply) (d : Delivery) (flags : List ℕ) → Within d → length flags ≡ 8
-      → readResponse (writeResponse r d flags .header) (writeResponse r d flags .block) ≡ answerOf r d flags
+  pub reads-back : (r : Reply) (d : Delivery) (flags : List ℕ) → length flags ≡ 8 → ResponseReadsBack r d flags (writeResponse r d flags)
   -- an ACK reads back whatever octets b stand beside its header
   pub ack-alone : (d : Delivery) (flags b : List ℕ) → Within d → readResponse (writeResponse Ack d flags .header) b ≡ answerOf Ack d flags
   -- so does a NACK

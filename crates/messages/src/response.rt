@@ -2,6 +2,7 @@
 ghost use mathlib.Core.Path.{_≡_};
 ghost use lib.ListN.{length, take};
 ghost use Rattle.messages.specs.Responses.{replyCode, responseHeader, sackData, dataOf, writeResponse, refusedResponse, readResponse};
+ghost use Rattle.messages.specs.ResponseClaims.{ResponseReadsBack};
 ghost use Rattle.messages.specs.Parts.{answerWith, answerBeside, answerTo};
 use crate::message::Delivery;
 use addresses::RadioAddress;
@@ -107,9 +108,9 @@ fn data_of(reply: Reply, flags: [u8; 8]) -> [u8; 12]
     }
 }
 
-// Writes a response; the flags are those of a SACK.
+// Writes a response, which reads back; the flags are those of a SACK.
 pub fn write(reply: Reply, d: Delivery, flags: [u8; 8]) -> ResponseOctets
-    ensures { λ r. ⌜ r ≡ writeResponse reply d flags ⌝ }
+    ensures { λ r. ⌜ (r ≡ writeResponse reply d flags) × ResponseReadsBack reply d flags r ⌝ }
 {
     let written = packets::header::write(header_of(reply, d));
     if written.number != 0 {

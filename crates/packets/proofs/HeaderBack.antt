@@ -10,16 +10,18 @@ use lib.ListN.{length, getD}
 use Rattle.codes.specs.Order.{firstFailed}
 use Rattle.checks.specs.Checks.{headerGood}
 use Rattle.checks.proofs.HeaderChecks.{headerCheck-lt, header-carried}
-use Rattle.packets.specs.Headers.{headerMask, part, commonOf, formatOf, headerOf, readHeader, knownFormat, headerBody, withCheck, writtenHeader, commonWidths, widths, widthNumber}
+use Rattle.packets.specs.Headers.{headerMask, part, commonOf, formatOf, headerOf, readHeader, knownFormat, headerBody, withCheck, writtenHeader, commonWidths, widths, widthNumber, writeHeader}
+use Rattle.packets.specs.HeaderClaims.{HeaderReadsBack}
 use Rattle.packets.specs.Parts.{formatNumber, commonFields, lastOctet, lastWidths, CommonWithin, LastWithin}
 use Rattle.packets.specs.declared.header.Common.{Common}
 use Rattle.packets.specs.declared.header.Header.{Header}
 use Rattle.packets.specs.declared.header.Header.the-variants.{Response, Unconfirmed, Confirmed}
 use Rattle.packets.specs.declared.header.HeaderAnswer.the-variants.{Accepted}
+use Rattle.packets.specs.declared.header.HeaderOctets.{HeaderOctets}
 use Rattle.packets.proofs.Octets.{all-octets}
 use Rattle.packets.proofs.Widths.{first-run, run-passed}
 use Rattle.packets.proofs.HeaderParts.{written-is}
-use Rattle.packets.proofs.HeaderWriting.{common-within, last-within, format-known, number-parts}
+use Rattle.packets.proofs.HeaderWriting.{common-within, last-within, format-known, number-parts, number-within}
 use Rattle.packets.proofs.HeaderReading.{accepted, format-1, format-2, format-3}
 
 module _ (format : ℕ) (c : Common) (last : ℕ) where
@@ -127,3 +129,7 @@ module _ (h : Header) (w : widthNumber h ≡ 0) where
   pub reads-back : readHeader (writtenHeader h) ≡ Accepted h
   reads-back =
       sym (accepted (writtenHeader h) (written-length h) (written-good h) (ap knownFormat (written-format h) ∙ format-named h)) ∙ ap Accepted (fields-back h common-fits last-fits)
+
+pub answer-back : (h : Header) → HeaderReadsBack h (writeHeader h)
+unfolding writeHeader
+answer-back h w = ap (λ (r : HeaderOctets). readHeader (r .octets)) (sym (number-within h w)) ∙ reads-back h w

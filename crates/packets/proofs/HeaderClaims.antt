@@ -5,13 +5,13 @@ use Rattle.packets.specs.Headers.{formatOf}
 use Rattle.packets.specs.HeaderClaims.{HeaderClaims}
 use Rattle.packets.proofs.HeaderReading.{size-refused, check-refused, format-refused, accepted, number-is, 1-size, 8-check, 9-format, known-format, unknown-format, not-known}
 use Rattle.packets.proofs.HeaderWriting.{number-within, number-wide, widths-else}
-use Rattle.packets.proofs.HeaderBack.{reads-back}
+use Rattle.packets.proofs.HeaderBack.{answer-back}
 use Rattle.packets.proofs.Reserved.{reserved-ignored}
 
 pub claims : HeaderClaims
 claims = record {
   written = λ h w. sym (number-within h w);
-  reads-back = reads-back;
+  reads-back = answer-back;
   too-wide = λ h w. sym (number-wide h (widths-else h w));
   number = number-is;
   size = λ h. (λ n. sym (size-refused h n), 1-size h);

@@ -8,13 +8,17 @@ use Prim.Native.Nat.{ℕ, _/_, _≤_, _<_}
 use lib.ListN.{length, getD, drop, replicate}
 use Rattle.checks.specs.Checks.{blockGood}
 use Rattle.packets.specs.Blocks.{readBlock, writtenBlock, writeBlock}
+use Rattle.packets.specs.declared.block.BlockOctets.{BlockOctets}
+
+-- an answer of the writer without a number reads back as this serial and these data octets
+abbrev pub BlockReadsBack : ℕ → List ℕ → BlockOctets → Type 0
+BlockReadsBack serial os r = r .number ≡ 0 → readBlock (r .octets) ≡ record { number = 0; serial = serial; octets = os }
 
 pub record BlockClaims : Type 0 where
   -- a serial below 128 and ten data octets are written
   pub written : (serial : ℕ) (os : List ℕ) → serial < 128 → length os ≡ 10 → writeBlock serial os ≡ record { number = 0; octets = writtenBlock serial os }
   -- and what is written reads back
-  pub reads-back : (serial : ℕ) (os : List ℕ) → serial < 128 → length os ≡ 10
-      → readBlock (writtenBlock serial os) ≡ record { number = 0; serial = serial; octets = os }
+  pub reads-back : (serial : ℕ) (os : List ℕ) → BlockReadsBack serial os (writeBlock serial os)
   -- data of another size is refused with 1, else a wider serial with 16
   pub data-size : (serial : ℕ) (os : List ℕ) → length os ≢ 10 → writeBlock serial os ≡ record { number = 1; octets = replicate 12 0 }
   pub too-wide : (serial : ℕ) (os : List ℕ) → length os ≡ 10 → 128 ≤ serial → writeBlock serial os ≡ record { number = 16; octets = replicate 12 0 }

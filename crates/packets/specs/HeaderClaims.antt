@@ -11,6 +11,7 @@ use Rattle.checks.specs.Checks.{headerGood}
 use Rattle.packets.specs.Headers.{headerMask, formatOf, headerOf, headerTests, readHeader, headerNumber, writtenHeader, widthNumber, writeHeader}
 use Rattle.packets.specs.declared.header.Header.{Header}
 use Rattle.packets.specs.declared.header.HeaderAnswer.the-variants.{Accepted, Refused}
+use Rattle.packets.specs.declared.header.HeaderOctets.{HeaderOctets}
 
 -- octets 0 to 9 of h and k are equal but for the reserved bits
 pub record SameButReserved (h k : List ℕ) : Type 0 where
@@ -22,11 +23,15 @@ pub record SameButReserved (h k : List ℕ) : Type 0 where
   pub low : getD h 9 0 % 16 ≡ getD k 9 0 % 16
   pub high : formatOf h ≢ 2 → getD h 9 0 ≡ getD k 9 0
 
+-- an answer of the writer without a number reads back as h
+abbrev pub HeaderReadsBack : Header → HeaderOctets → Type 0
+HeaderReadsBack h r = r .number ≡ 0 → readHeader (r .octets) ≡ Accepted h
+
 pub record HeaderClaims : Type 0 where
   -- a header of any format whose fields are within their widths is written
   pub written : (h : Header) → widthNumber h ≡ 0 → writeHeader h ≡ record { number = 0; octets = writtenHeader h }
   -- and what is written reads back
-  pub reads-back : (h : Header) → widthNumber h ≡ 0 → readHeader (writtenHeader h) ≡ Accepted h
+  pub reads-back : (h : Header) → HeaderReadsBack h (writeHeader h)
   -- any other header is refused with 16
   pub too-wide : (h : Header) → widthNumber h ≢ 0 → writeHeader h ≡ record { number = 16; octets = replicate 12 0 }
   -- reading gives the number of the first test that fails

@@ -3,6 +3,7 @@ ghost use mathlib.Core.Path.{_≡_};
 ghost use Prim.Native.Nat.{_<_};
 ghost use lib.ListN.{length, drop};
 ghost use Rattle.packets.specs.Blocks.{readBlock, refusedBlock, writtenBlock, writeBlock};
+ghost use Rattle.packets.specs.BlockClaims.{BlockReadsBack};
 
 // What is read: number 0, the serial and the data octets, or the number of the refusal and zeros.
 pub struct Block {
@@ -75,9 +76,9 @@ fn octets_of(serial: u8, octets: &[u8]) -> [u8; 12]
     os
 }
 
-// Writes a block of ten data octets.
+// Writes a block of ten data octets, which reads back.
 pub fn write(serial: u8, octets: &[u8]) -> BlockOctets
-    ensures { λ r. ⌜ r ≡ writeBlock serial (now (octets .entry)) ⌝ }
+    ensures { λ r. ⌜ (r ≡ writeBlock serial (now (octets .entry))) × BlockReadsBack serial (now (octets .entry)) r ⌝ }
 {
     if octets.len() != 10 {
         return BlockOctets {

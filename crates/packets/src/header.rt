@@ -5,6 +5,7 @@ ghost use lib.Dec.{eqb};
 ghost use lib.ListN.{length};
 ghost use Rattle.codes.specs.Order.{firstFailed};
 ghost use Rattle.packets.specs.Headers.{commonOf, headerOf, knownFormat, readHeader, headerBody, withCheck, commonWidths, widths, writeHeader, headerFor};
+ghost use Rattle.packets.specs.HeaderClaims.{HeaderReadsBack};
 ghost use Rattle.packets.specs.Parts.{formatNumber, commonFields, lastOctet, lastWidths, CommonWithin, LastWithin};
 use addresses::RadioAddress;
 
@@ -221,9 +222,9 @@ fn octets_of(format: u8, c: Common, last: u8) -> [u8; 12]
     os
 }
 
-// Writes a header.
+// Writes a header, which reads back.
 pub fn write(h: Header) -> HeaderOctets
-    ensures { λ r. ⌜ r ≡ writeHeader h ⌝ }
+    ensures { λ r. ⌜ (r ≡ writeHeader h) × HeaderReadsBack h r ⌝ }
 {
     let c = common_of(h);
     if !common_fits(c) {

@@ -36,7 +36,7 @@ returns c =
     let w = c .before .before .before .write2 in
     let s = c .before .sync-bits in
     octets-written (a .colour) (a .datatype) (a .info) (a .sync) (f .result) (w .result) (s .result) (c .burst-octets .result)
-    (f .ensures) (w .ensures) (s .ensures) (c .burst-octets .ensures)
+    (f .ensures .0) (w .ensures .0) (s .ensures) (c .burst-octets .ensures)
 
 pub written-spec : {M : Type 1} → statement M
 written-spec =

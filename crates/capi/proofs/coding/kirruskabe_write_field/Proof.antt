@@ -44,7 +44,7 @@ returns-2 c =
     let got = taken (a .info .now) _ _ _ (c .before .before .before .before .before .before .before .before .give .ensures) (c .before .before .before .before .before .before .if1 .left) in
     let size : length (w .result) ≡ 25 = search needs in
     gives-as size
-    (ap (λ (x : List ℕ). (0, x)) (w .ensures ∙ ap writtenField (got .1))
+    (ap (λ (x : List ℕ). (0, x)) (w .ensures .0 ∙ ap writtenField (got .1))
     ∙ ap (λ (x : ℕ). (x, writtenField (a .info .now))) (sym (past-size 12 0 (a .info .now) (got .0) [] ∙ behind-none 0)))
     (c .before .before .give2 .ensures)
 

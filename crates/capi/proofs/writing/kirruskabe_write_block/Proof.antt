@@ -23,7 +23,7 @@ unfolding blockWritten
 returns c =
     let w = c .before .before .before .before .before .before .before .write in
     let size : length (w .result .octets) ≡ 12 = search needs in
-    gives-as size (ap (λ (x : BlockOctets). (x .number, x .octets)) (w .ensures)) (c .before .before .give .ensures)
+    gives-as size (ap (λ (x : BlockOctets). (x .number, x .octets)) (w .ensures .0)) (c .before .before .give .ensures)
 
 pub kirruskabe-write-block-spec : {M : Type 1} → statement M
 kirruskabe-write-block-spec = tie.close (tie.spec write-requires give-requires same-length returns)

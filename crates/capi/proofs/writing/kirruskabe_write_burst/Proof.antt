@@ -51,7 +51,7 @@ returns-2 c =
     let got = taken (a .info .now) _ _ _ (c .before .before .before .before .before .before .before .before .before .before .before .before .give .ensures) (c .before .before .before .before .before .before .before .before .before .before .if1 .left) in
     let size : length (w .result .octets) ≡ 33 = search needs in
     let same : w .result ≡ writeBurst (a .colour) (a .datatype) (a .info .now) (syncOf (a .sync)) =
-    w .ensures ∙ ap₂ (λ (os : List ℕ) (s : Sync). writeBurst (a .colour) (a .datatype) os s) (got .1) (c .before .before .before .before .before .before .before .before .before .sync-of .ensures) in
+    w .ensures .0 ∙ ap₂ (λ (os : List ℕ) (s : Sync). writeBurst (a .colour) (a .datatype) os s) (got .1) (c .before .before .before .before .before .before .before .before .before .sync-of .ensures) in
     gives-as size
     (ap (λ (x : ℕ). (x, w .result .octets)) (c .before .before .before .before .before .before .at-most .ensures ∙ sym (past-both 12 (w .result .number) (a .info .now) (got .0) (leb (a .sync) 1)))
     ∙ ap (λ (x : BurstOctets). (behind ((eqb (length (a .info .now)) 12, 1) ∷ (leb (a .sync) 1, 16) ∷ []) (x .number), x .octets)) same)

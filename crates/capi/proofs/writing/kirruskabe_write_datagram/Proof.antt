@@ -64,7 +64,7 @@ returns-3 c =
     let got = taken (a .info .now) _ _ _ (c .before .before .before .before .before .before .before .before .before .before .before .before .before .give .ensures) (c .before .before .before .before .before .before .before .before .before .before .before .if2 .left) in
     let size : length (w .result .octets) ≡ 53 = search needs in
     let same : w .result ≡ writeDatagram (labelsFrom (a .labels .now)) (a .colour) (a .datatype) (a .info .now) (syncOf (a .sync)) =
-    w .ensures ∙ (rw (c .before .before .before .before .before .before .before .before .before .before .labels-from .ensures, got .1, c .before .before .before .before .before .before .before .before .before .sync-of .ensures)) in
+    w .ensures .0 ∙ (rw (c .before .before .before .before .before .before .before .before .before .before .labels-from .ensures, got .1, c .before .before .before .before .before .before .before .before .before .sync-of .ensures)) in
     let all : List (Bool × ℕ) = (eqb (length (a .labels .now)) 17, 1) ∷ (eqb (length (a .info .now)) 12, 1) ∷ (leb (a .sync) 1, 16) ∷ [] in
     let number : behind all (w .result .number) ≡ cond (leb (a .sync) 1) (w .result .number) 16 =
     past-size 17 (w .result .number) (a .labels .now) (c .before .before .before .before .before .before .before .before .before .before .before .before .before .before .before .if1 .left) _ ∙ past-both 12 (w .result .number) (a .info .now) (got .0) (leb (a .sync) 1) in

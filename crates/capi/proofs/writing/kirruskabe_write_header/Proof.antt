@@ -59,7 +59,7 @@ returns-2 c =
     let w = c .before .before .before .before .before .before .before .write in
     let size : length (w .result .octets) ≡ 12 = search needs in
     gives-as size
-    (ap (λ (x : HeaderOctets). (x .number, x .octets)) (w .ensures)
+    (ap (λ (x : HeaderOctets). (x .number, x .octets)) (w .ensures .0)
     ∙ written-is (c .before .before .before .before .before .before .before .before .before .before .before .before .before .before .before .args .fields .now) (c .before .before .before .before .before .before .before .before .before .before .before .before .if1 .left) (Accepted _) (sym (c .before .before .before .before .before .before .before .before .before .h .given .1) ∙ c .before .before .before .before .before .before .before .before .before .before .before .header-from .ensures))
     (c .before .before .give .ensures)
 

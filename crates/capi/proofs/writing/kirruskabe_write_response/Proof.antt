@@ -62,7 +62,7 @@ returns-2 c =
     let size : length (w .result .header) ≡ 12 = search needs in
     let size2 : length (w .result .block) ≡ 12 = search needs in
     let same : w .result ≡ writeResponse (replyOf (a .reply)) (deliveryOf (a .sap) (a .ns) (a .destination) (a .source)) (a .flags .now) =
-    w .ensures ∙ (rw (c .before .before .before .before .before .before .before .before .before .before .before .reply-of .ensures, c .before .before .before .before .before .before .before .before .before .before .delivery .ensures, got .1)) in
+    w .ensures .0 ∙ (rw (c .before .before .before .before .before .before .before .before .before .before .before .reply-of .ensures, c .before .before .before .before .before .before .before .before .before .before .delivery .ensures, got .1)) in
     let all : List (Bool × ℕ) = (eqb (length (a .flags .now)) 8, 1) ∷ (leb (a .reply) 2, 16) ∷ [] in
     gives-as (omega arith)
     (ap (λ (x : ℕ). (x, w .result .header ++ w .result .block)) (c .before .before .before .before .before .at-most .ensures ∙ sym (past-both 8 (w .result .number) (a .flags .now) (got .0) (leb (a .reply) 2)))

@@ -10,7 +10,7 @@ write-requires c κs = search needs
 
 returns : tie.Need-returns
 unfolding paddedHeader
-returns c = c .write .ensures
+returns c = c .write .ensures .0
 
 pub attempt-spec : {M : Type 1} → statement M
 attempt-spec = tie.close (tie.spec write-requires returns)

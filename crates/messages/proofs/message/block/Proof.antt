@@ -46,7 +46,7 @@ returns-2 : tie.Need-returns-2
 returns-2 c =
     let a = c .before .before .before .before .before .before .before .before .args in
     let s = c .before .before .before .before .before .before .size-of in
-    inner-written (a .message .now) (s .result) (s .ensures) (a .n) (c .before .before .before .before .if1 .left) _ _ _ (c .before .before .data-of .ensures) (c .write .ensures) (c .before .before .before .if2 .taken)
+    inner-written (a .message .now) (s .result) (s .ensures) (a .n) (c .before .before .before .before .if1 .left) _ _ _ (c .before .before .data-of .ensures) (c .write .ensures .0) (c .before .before .before .if2 .taken)
 
 check-of-requires : tie.Need-check-of-requires
 check-of-requires c κs =
@@ -73,7 +73,7 @@ returns-3 : tie.Need-returns-3
 returns-3 c =
     let a = c .before .before .before .before .before .before .before .before .before .args in
     let s = c .before .before .before .before .before .before .before .size-of in
-    last-written (a .message .now) (s .result) (s .ensures) (a .n) (c .before .before .before .before .before .if1 .left) _ _ _ (c .before .before .data-of2 .ensures) (c .write2 .ensures) (c .before .before .before .check-of .ensures)
+    last-written (a .message .now) (s .result) (s .ensures) (a .n) (c .before .before .before .before .before .if1 .left) _ _ _ (c .before .before .data-of2 .ensures) (c .write2 .ensures .0) (c .before .before .before .check-of .ensures)
 
 pub block-spec : {M : Type 1} → statement M
 block-spec =
