@@ -8,8 +8,9 @@ use lib.Dec.{eqb}
 use lib.ListN.{length}
 use borrow.Author.Tests.{eqb-true, eq-eqb, ne-eqb}
 use Rattle.codes.specs.Order.{firstFailed}
+use Rattle.codes.proofs.Tests.{either}
 use Rattle.layouts.specs.Lent.{Gives}
-use Rattle.layouts.proofs.Giving.{either, refused-with-1}
+use Rattle.layouts.proofs.Giving.{refused-with-1}
 use Rattle.capi.specs.Answers.{behind}
 
 module _ (n : ℕ) where

@@ -9,6 +9,7 @@ use native.Mathlib.Omega.{arith}
 use lib.Dec.{lit<}
 use lib.ListN.{length, getD, take, drop, length-append, length-drop}
 use lib.Seq.{getD-take, take-at, drop-at}
+use Rattle.addresses.proofs.OctetsBack.{three-back, four-back}
 use Rattle.codes.specs.SlotWord.{slotWord, distance}
 use Rattle.codes.specs.Field.{writtenField, readField, Correctable}
 use Rattle.codes.proofs.Tests.{all-eq}
@@ -23,16 +24,6 @@ use Rattle.bursts.proofs.DataTypes.{known-lt}
 use Rattle.bursts.proofs.Numbers.{field-read, near-slot}
 use Rattle.bursts.proofs.ReadingBack.{field-length, written-length, written-slot, written-field, distance-self}
 use Rattle.datagrams.proofs.DatagramNumbers.{letters-same, contents-read}
-
--- the numbers of three and four octets
-three-back : (n : ℕ) → n < 2 ^ 24 → 65536 * (n / 65536 % 256) + 256 * (n / 256 % 256) + n % 256 ≡ n
-three-back n h = let e : n / 65536 ≡ n / 256 / 256 = omega arith in omega arith
-
-four-back : (n : ℕ) → n < 2 ^ 32 → 16777216 * (n / 16777216 % 256) + 65536 * (n / 65536 % 256) + 256 * (n / 256 % 256) + n % 256 ≡ n
-four-back n h =
-    let e : n / 65536 ≡ n / 256 / 256 = omega arith in
-    let f : n / 16777216 ≡ n / 256 / 65536 = omega arith in
-    rw (e, f) (omega (arith, three-back (n / 256) (omega arith)))
 
 -- labels are equal by their numbers
 labels-same : (l : Labels) (sequence source target repeater timeslot call stream : ℕ) → sequence ≡ l .sequence → source ≡ l .source .0

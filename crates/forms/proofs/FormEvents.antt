@@ -15,7 +15,7 @@ use Rattle.datagrams.specs.Datagrams.{datagramNumber, readDatagram}
 use Rattle.datagrams.specs.declared.Datagram.{Datagram}
 use Rattle.datagrams.proofs.DatagramNumbers.{read-number}
 use Rattle.transactions.specs.Answers.{refused, numberOf}
-use Rattle.transactions.proofs.Tests.{either}
+use Rattle.codes.proofs.Tests.{either}
 use Rattle.receiver_state.specs.declared.Receiver.{Receiver}
 use Rattle.stored.specs.Stored.{storedBlock, saved, afterSave}
 use Rattle.stored.specs.Claims.{Savable}

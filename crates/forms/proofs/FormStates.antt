@@ -17,8 +17,7 @@ use Rattle.checks.specs.Checks.{messageGood}
 use Rattle.messages.specs.Messages.{blockSize}
 use Rattle.packets.proofs.Octets.{octets-take, octets-drop}
 use Rattle.transactions.specs.Flags.{flagOctetCount}
-use Rattle.transactions.proofs.Tests.{either, never}
-use Rattle.transactions.proofs.Order.{numbered}
+use Rattle.codes.proofs.Tests.{either, never}
 use Rattle.receiver_state.specs.Receiver.{storeSize, freshReceiver, freshFor, receiverGood}
 use Rattle.receiver_state.specs.declared.Receiver.{Receiver}
 use Rattle.receiver_state.specs.declared.Fresh.{Fresh}
@@ -26,6 +25,7 @@ use Rattle.stored.specs.Stored.{storedBlock, block0, block1, receiverIn, storeI
 use Rattle.stored.specs.Claims.{Savable}
 use Rattle.stored.specs.declared.restoring.Restored.{Restored}
 use Rattle.stored.proofs.Numbers.{first-block, second-block, block-sizes, sizes, impossible, other-form}
+use Rattle.stored.proofs.SavingBack.{restore-passed}
 use Rattle.stored.proofs.StoreReading.{length-storeIn}
 use Rattle.history.specs.Run.{State}
 use Rattle.history.specs.Claims.{Octets}
@@ -40,19 +40,6 @@ pub length-none : length noOctets ≡ storeSize
 length-none = length-replicate {A = ℕ} storeSize 0
 
 -- ---- numbers
-
-later : (t u : Bool) → cond t u false ≡ true → u ≡ true
-later true u e = e
-later false u e = never e refl
-
--- where all tests are passed each is
-passed-at : (ts : List (Bool × ℕ)) (i : ℕ) → numbered ts ≡ true → firstFailed ts ≡ 0 → getD ts i (true, 0) .0 ≡ true
-unfolding firstFailed
-passed-at [] i p e = refl
-passed-at ((true, n) ∷ ts) zero p e = refl
-passed-at ((true, n) ∷ ts) (suc i) p e = passed-at ts i (later (ltb 0 n) (numbered ts) p) e
-passed-at ((false, zero) ∷ ts) i p e = never p refl
-passed-at ((false, suc n) ∷ ts) i p e = absurd (omega arith)
 
 pub other-size : (form : List ℕ) → length form ≢ 2 * storedBlock → formNumber form ≡ 1
 unfolding formNumber
@@ -69,13 +56,8 @@ module _ (rx : Receiver) (form store : List ℕ) (none : restoreNumber rx form s
   abbrev b : List ℕ
   b = block1 form
 
-  tests-numbered : numbered (restoreTests rx form store) ≡ true
-  unfolding restoreTests layoutTests
-  tests-numbered = refl
-
   test : (i : ℕ) → getD (restoreTests rx form store) i (true, 0) .0 ≡ true
-  unfolding restoreNumber
-  test i = passed-at (restoreTests rx form store) i tests-numbered none
+  test = restore-passed rx form store none
 
   good : receiverGood (receiverIn a) ≡ true
   unfolding restoreTests layoutTests

@@ -10,7 +10,7 @@ use lib.ListN.{length}
 use borrow.Author.Tests.{eq-eqb, ne-eqb, ltb-true}
 use Rattle.addresses.specs.declared.RadioAddress.{RadioAddress}
 use Rattle.codes.specs.Order.{firstFailed}
-use Rattle.transactions.proofs.Tests.{either}
+use Rattle.codes.proofs.Tests.{either}
 use Rattle.receiver_state.specs.Receiver.{freshReceiver, freshFor}
 use Rattle.receiver_state.specs.declared.Fresh.{Fresh}
 use Rattle.stored.specs.Stored.{storedBlock, saveNumber, afterSave}

@@ -12,7 +12,7 @@ use borrow.Author.Tests.{eq-eqb, ne-eqb, eqb-true, eqb-false, ltb-true, leb-true
 use Rattle.codes.specs.Order.{every}
 use Rattle.codes.proofs.Tests.{every-at}
 use Rattle.transactions.specs.Flags.{flagCount, flagged}
-use Rattle.transactions.proofs.Tests.{either, never}
+use Rattle.codes.proofs.Tests.{either, never}
 use Rattle.transactions.proofs.Order.{all-at}
 use Rattle.transactions.proofs.FlagOctets.{flagged-far}
 use Rattle.receiver_state.specs.Receiver.{blockAt, held, allHeld, noneFrom, receiverGood, transactionNone, transactionGood}

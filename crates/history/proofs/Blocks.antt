@@ -18,7 +18,7 @@ use Rattle.transactions.specs.Transactions.{serialOf, dataOf, takenTests, taken
 use Rattle.transactions.specs.Flags.{flagged, withFlag}
 use Rattle.transactions.specs.Answers.{message}
 use Rattle.transactions.specs.declared.header.Transaction.{Transaction}
-use Rattle.transactions.proofs.Tests.{either, never}
+use Rattle.codes.proofs.Tests.{either, never}
 use Rattle.transactions.proofs.Order.{all-nil, all-cons, all-at, passed}
 use Rattle.transactions.proofs.FlagOctets.{flagged-with, octets-with, length-with}
 use Rattle.receiver_state.specs.Receiver.{blockAt, storeSize, noFlags, held, allHeld, transactionGood}

@@ -16,7 +16,7 @@ use Rattle.messages.proofs.MessageLayout.{joined-parts}
 use Rattle.packets.proofs.Octets.{octets-zeros}
 use Rattle.transactions.specs.Flags.{flagOctetCount, flagCount, flagged}
 use Rattle.transactions.specs.declared.header.Transaction.{Transaction}
-use Rattle.transactions.proofs.Tests.{either, never}
+use Rattle.codes.proofs.Tests.{either, never}
 use Rattle.transactions.proofs.Order.{all-nil, all-cons}
 use Rattle.transactions.proofs.FlagOctets.{flagged-none}
 use Rattle.receiver_state.specs.Receiver.{blockAt, storeSize, noFlags, noTransaction, freshReceiver, freshFor, held, allHeld, noneFrom, receiverGood}

@@ -9,7 +9,7 @@ use lib.Dec.{T, eqb}
 use Rattle.codes.proofs.Tests.{every-at}
 use Rattle.messages.specs.Messages.{joined}
 use Rattle.transactions.specs.declared.header.Transaction.{Transaction}
-use Rattle.transactions.proofs.Tests.{either, never}
+use Rattle.codes.proofs.Tests.{either, never}
 use Rattle.history.specs.History.{Kept, holds, heldData, whole}
 
 either-order : (a b c : Bool) → cond a true (cond b true c) ≡ cond b true (cond a true c)

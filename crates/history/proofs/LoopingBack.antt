@@ -25,7 +25,7 @@ use Rattle.messages.proofs.MessageClaims.{messages}
 use Rattle.transactions.specs.Transactions.{serialOf}
 use Rattle.transactions.specs.Answers.{message}
 use Rattle.transactions.specs.declared.header.Transaction.{Transaction}
-use Rattle.transactions.proofs.Tests.{either}
+use Rattle.codes.proofs.Tests.{either}
 use Rattle.receiver_state.specs.Receiver.{storeSize, held, allHeld, freshReceiver, freshFor}
 use Rattle.receiver.specs.Events.{Left, said, blockNumber, completed, taken, onHeader, onBlock}
 use Rattle.receiver_state.specs.declared.Receiver.{Receiver}

@@ -14,7 +14,7 @@ use Rattle.packets.specs.Headers.{headerTests, commonOf}
 use Rattle.messages.specs.Messages.{blockSize, checkSize, mostBlocks}
 use Rattle.transactions.specs.Transactions.{all, transactionOf, isFull, heardTests, heardNumber, serialOf}
 use Rattle.transactions.specs.declared.header.Transaction.{Transaction}
-use Rattle.transactions.proofs.Tests.{either, never}
+use Rattle.codes.proofs.Tests.{either, never}
 use Rattle.transactions.proofs.Order.{all-nil, all-cons, all-at, passed}
 use Rattle.receiver_state.specs.Receiver.{transactionGood, transactionNone}
 use Rattle.history.specs.History.{Kept, History, nothing, holds, opens, valid, keeping, whole, messageOf, afterHeader, afterBlock}

@@ -8,11 +8,8 @@ use native.Mathlib.Omega.{arith}
 use lib.Dec.{eqb}
 use lib.ListN.{length}
 use borrow.Author.Tests.{eqb-true, eq-eqb, ne-eqb}
+use Rattle.codes.proofs.Tests.{either}
 use Rattle.layouts.specs.Lent.{Answer, given, filled, Gives}
-
-pub either : {C : Type 0} (b : Bool) → (b ≡ true → C) → (b ≡ false → C) → C
-either true f g = f refl
-either false f g = g refl
 
 -- an answer in another form, and its size
 pub gives-as : {m n r : ℕ} {a b : Answer} {out after : List ℕ} → m ≡ n → a ≡ b → Gives m a out r after → Gives n b out r after

@@ -11,7 +11,7 @@ use borrow.Author.Tests.{eqb-true}
 use Rattle.addresses.specs.Octets.{addressAt}
 use Rattle.packets.proofs.Octets.{octets-take, octets-drop}
 use Rattle.transactions.specs.Transactions.{all}
-use Rattle.transactions.proofs.Tests.{either}
+use Rattle.codes.proofs.Tests.{either}
 use Rattle.transactions.proofs.Order.{all-at}
 use Rattle.receiver_state.specs.Receiver.{storeSize}
 use Rattle.history.specs.History.{header, block, ended}

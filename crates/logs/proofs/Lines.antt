@@ -12,12 +12,12 @@ use lib.Seq.{getD-append-add, take-all, take-length}
 use borrow.Author.Tests.{eq-eqb, ne-eqb, ltb-true, ltb-false}
 use Rattle.messages.specs.declared.response.ResponseOctets.{ResponseOctets}
 use Rattle.transactions.specs.Answers.{refused, response, responseSaid}
-use Rattle.transactions.proofs.Tests.{either}
+use Rattle.codes.proofs.Filling.{getD-padded}
+use Rattle.codes.proofs.Tests.{either}
 use Rattle.receiver.specs.Events.{said}
 use Rattle.receiver.specs.declared.event.Answer.{Answer}
 use Rattle.stored.specs.Stored.{storedBlock}
 use Rattle.logs.specs.Log.{answer, lineSize, lineOctets, lineIn}
-use Rattle.logs.proofs.Lists.{getD-padded}
 
 length-padded : (os : List ℕ) (size : ℕ) → length os ≤ size → length (os ++ replicate (size - length os) 0) ≡ size
 length-padded os size h = rw (length-append, length-replicate) (omega arith)

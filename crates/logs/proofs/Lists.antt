@@ -59,16 +59,5 @@ module _ (k : ℕ) (a b : List ℕ) (n : ℕ) (os : List ℕ) where
           let f : length a + (i - k) ≡ i = omega arith in
           ap (λ (m : ℕ). getD os m 0) (sym e) ∙ h .second (i - k) (omega arith) ∙ sym (getD-append-add a b (i - k) 0) ∙ ap (λ (m : ℕ). getD (a ++ b) m 0) f
 
--- zeros at the end change no element
-getD-zeros : (n i : ℕ) → getD (replicate {A = ℕ} n 0) i 0 ≡ 0
-getD-zeros zero i = refl
-getD-zeros (suc n) zero = refl
-getD-zeros (suc n) (suc i) = getD-zeros n i
-
-pub getD-padded : (os : List ℕ) (n i : ℕ) → getD (os ++ replicate n 0) i 0 ≡ getD os i 0
-getD-padded [] n i = getD-zeros n i
-getD-padded (o ∷ os) n zero = refl
-getD-padded (o ∷ os) n (suc i) = getD-padded os n i
-
 pub drop-take : (k n : ℕ) (os : List ℕ) → k ≤ length os → drop k (take (k + n) os) ≡ take n (drop k os)
 drop-take k n os h = rw (take-add k n os) (drop-at (take k os) (take n (drop k os)) k (length-take-le k os h))

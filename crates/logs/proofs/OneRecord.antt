@@ -10,7 +10,7 @@ use lib.ListN.{length, getD, drop}
 use borrow.Author.Tests.{eq-eqb, ne-eqb, eqb-true, ltb-true}
 use Rattle.codes.specs.Order.{firstFailed}
 use Rattle.transactions.specs.Transactions.{all}
-use Rattle.transactions.proofs.Tests.{either}
+use Rattle.codes.proofs.Tests.{either}
 use Rattle.transactions.proofs.Order.{all-nil, all-cons, all-at, all-fails}
 use Rattle.receiver_state.specs.Receiver.{storeSize, freshReceiver, freshFor, receiverGood}
 use Rattle.receiver_state.specs.declared.Receiver.{Receiver}

@@ -11,7 +11,7 @@ use borrow.Author.Tests.{eq-eqb, ne-eqb, lt-ltb, le-ltb, le-leb, lt-leb}
 use Rattle.polynomials.proofs.Runs.{tabulated}
 use Rattle.codes.specs.Order.{firstFailed}
 use Rattle.checks.specs.Checks.{messageCheck, lowestFirst}
-use Rattle.codes.proofs.Filling.{Filled, filled-done}
+use Rattle.codes.proofs.Filling.{Filled, filled-done, getD-padded}
 use Rattle.packets.specs.Headers.{writeHeader}
 use Rattle.packets.specs.Blocks.{writeBlock}
 use Rattle.messages.specs.Messages.{blockSize, checkSize, mostOctets, blocksOf, padOf, sizeOf, padded, laidOut, blockData, blockPartTests, writeMessageBlock, attemptHeader, refusedHeader, fullHeader, partialHeader}
@@ -77,17 +77,6 @@ module _ (n : ℕ) (d : Delivery) where
 
 -- ---- octets
 
-zeros : (p i : ℕ) → getD (replicate {A = ℕ} p 0) i 0 ≡ 0
-zeros zero i = refl
-zeros (suc p) zero = refl
-zeros (suc p) (suc i) = zeros p i
-
--- zeros behind a list are what stands past its end
-zeros-behind : (m : List ℕ) (p i : ℕ) → getD (m ++ replicate p 0) i 0 ≡ getD m i 0
-zeros-behind [] p i = zeros p i
-zeros-behind (o ∷ m) p zero = refl
-zeros-behind (o ∷ m) p (suc i) = zeros-behind m p i
-
 module _ (m : List ℕ) where
   length-padded : length (padded m) ≡ length m + padOf (length m)
   unfolding padded
@@ -95,7 +84,7 @@ module _ (m : List ℕ) where
 
   padded-octet : (i : ℕ) → getD (padded m) i 0 ≡ getD m i 0
   unfolding padded
-  padded-octet i = zeros-behind m (padOf (length m)) i
+  padded-octet i = getD-padded m (padOf (length m)) i
 
   ends : (b : ℕ) → b ≡ blocksOf (length m) → length m ≤ mostOctets → Ends m (blockSize * b - checkSize)
   ends b e h =

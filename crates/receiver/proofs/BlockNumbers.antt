@@ -13,7 +13,7 @@ use Rattle.codes.specs.Order.{firstFailed}
 use Rattle.packets.specs.Blocks.{blockTests, blockNumber as readNumber, refusedBlock, readBlock}
 use Rattle.packets.specs.declared.block.Block.{Block}
 use Rattle.transactions.specs.Transactions.{serialOf, dataOf, sameData, takenTests, takenNumber}
-use Rattle.transactions.proofs.Tests.{either}
+use Rattle.codes.proofs.Tests.{either}
 use Rattle.transactions.proofs.Order.{all-at, passed, block-run, run-fails}
 use Rattle.receiver_state.specs.declared.Receiver.{Receiver}
 use Rattle.receiver_state.specs.Receiver.{blockAt, storeSize, held, transactionGood, receiverGood}

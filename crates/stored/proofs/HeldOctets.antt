@@ -13,7 +13,7 @@ use lib.Seq.{length-take-le, ext-getD, getD-take, getD-drop}
 use Rattle.codes.specs.Order.{every}
 use Rattle.codes.proofs.Tests.{every-at, every-true}
 use Rattle.messages.specs.Messages.{blockSize, mostBlocks}
-use Rattle.transactions.proofs.Tests.{either}
+use Rattle.codes.proofs.Tests.{either}
 use Rattle.receiver_state.specs.Receiver.{blockAt, storeSize, held}
 use Rattle.receiver_state.specs.declared.Receiver.{Receiver}
 use Rattle.stored.specs.Stored.{heldOctets, clear, zerosFrom}

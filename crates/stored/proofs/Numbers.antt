@@ -11,6 +11,7 @@ use lib.Dec.{eqb}
 use lib.ListN.{length, getD, take, drop, length-drop}
 use lib.Seq.{take-all, length-take-le}
 use Rattle.codes.specs.Order.{firstFailed}
+use Rattle.codes.proofs.Tests.{last}
 use Rattle.checks.specs.Checks.{headerGood}
 use Rattle.transactions.specs.Transactions.{all}
 use Rattle.transactions.proofs.Order.{all-fails, passed}
@@ -44,10 +45,6 @@ unfolding all
 all-append [] us = refl
 all-append (true ∷ ts) us = all-append ts us
 all-append (false ∷ ts) us = refl
-
-last : (t : Bool) → t ≡ cond t true false
-last true = refl
-last false = refl
 
 module _ (a b : List ℕ) (rx : Receiver) (store : List ℕ) where
   abbrev marks : List Bool

@@ -7,6 +7,7 @@ use Prim.Native.Nat.{ℕ, _+_, _*_, _/_, _%_, _^_, _<_}
 use native.Mathlib.Omega.{arith}
 use lib.ListN.{length, getD, take, drop, replicate, length-append, length-replicate, getD-replicate}
 use lib.Seq.{take-at, drop-at, getD-take, getD-drop}
+use Rattle.addresses.proofs.OctetsBack.{three-back}
 use Rattle.addresses.specs.Octets.{addressAt, threeOctets}
 use Rattle.addresses.specs.declared.RadioAddress.{RadioAddress}
 use Rattle.checks.specs.Checks.{headerCheck, headerGood}
@@ -27,9 +28,6 @@ module _ (l p q r : List ℕ) (n m : ℕ) (parts : l ≡ p ++ q ++ r) (before : 
 
 length-three : (p q r : List ℕ) → length (p ++ q ++ r) ≡ length p + length q + length r
 length-three p q r = length-append (p ++ q) r ∙ ap (λ (n : ℕ). n + length r) (length-append p q)
-
-three-back : (x : ℕ) → x < 2 ^ 24 → 65536 * (x / 65536 % 256) + 256 * (x / 256 % 256) + x % 256 ≡ x
-three-back x h = omega arith
 
 address-back : (x : RadioAddress) → x .0 < 2 ^ 24 → record { 0 = 65536 * (x .0 / 65536 % 256) + 256 * (x .0 / 256 % 256) + x .0 % 256 } ≡ x
 address-back x h = rw (three-back (x .0) h)

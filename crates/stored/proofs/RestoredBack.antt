@@ -15,7 +15,7 @@ use Rattle.messages.specs.Messages.{blockSize, mostBlocks}
 use Rattle.transactions.specs.Transactions.{all}
 use Rattle.transactions.specs.Flags.{flagCount, flagged}
 use Rattle.transactions.specs.declared.header.Transaction.{Transaction}
-use Rattle.transactions.proofs.Tests.{either}
+use Rattle.codes.proofs.Tests.{either}
 use Rattle.transactions.proofs.Order.{all-at, all-cons, all-nil, first-passed, first-run, numbered}
 use Rattle.receiver_state.specs.Receiver.{storeSize, noFlags, freshReceiver, noTransaction, held, allHeld, transactionGood, transactionNone, noneFrom, receiverGood}
 use Rattle.receiver_state.specs.declared.Receiver.{Receiver}

@@ -16,8 +16,8 @@ use Rattle.checks.specs.Checks.{headerCheck, headerGood}
 use Rattle.checks.proofs.HeaderChecks.{header-long}
 use Rattle.packets.proofs.Octets.{Octets, octets-take, octets-drop}
 use Rattle.transactions.specs.Flags.{flagOctetCount}
-use Rattle.transactions.proofs.Tests.{never}
-use Rattle.transactions.proofs.Order.{numbered}
+use Rattle.codes.proofs.Tests.{never}
+use Rattle.transactions.proofs.Order.{numbered, passed-at}
 use Rattle.receiver_state.specs.Receiver.{storeSize, held}
 use Rattle.receiver_state.specs.declared.Receiver.{Receiver}
 use Rattle.stored.specs.Stored.{storedBlock, checkedSize, firstPart, secondPart, zeroPart, storeAt0, storeAt1, zerosAt, withStoredCheck, heldOctets, body0, storedForm, saved, block0, block1, receiverIn, storeIn, zerosFrom, clear, layoutTests, restoreTests, restoreNumber}
@@ -25,18 +25,14 @@ use Rattle.stored.proofs.HeldOctets.{held-all, clear-at, zerosFrom-at}
 use Rattle.stored.proofs.StoreReading.{part-tabulated, part0, part1, length-part0, length-part1, length-storeIn}
 use Rattle.stored.proofs.ReadingBack.{Starts, written0, written1, zeros, length-zeros, zeros-at, fields, head, head1, head-parts, written1-parts}
 
-later : (t u : Bool) → cond t u false ≡ true → u ≡ true
-later true u e = e
-later false u e = never e refl
+-- each test of restoring is passed where there is no number
+tests-numbered : (rx : Receiver) (form store : List ℕ) → numbered (restoreTests rx form store) ≡ true
+unfolding restoreTests layoutTests
+tests-numbered rx form store = refl
 
--- where all tests are passed each is
-passed-at : (ts : List (Bool × ℕ)) (i : ℕ) → numbered ts ≡ true → firstFailed ts ≡ 0 → getD ts i (true, 0) .0 ≡ true
-unfolding firstFailed
-passed-at [] i p e = refl
-passed-at ((true, n) ∷ ts) zero p e = refl
-passed-at ((true, n) ∷ ts) (suc i) p e = passed-at ts i (later (ltb 0 n) (numbered ts) p) e
-passed-at ((false, zero) ∷ ts) i p e = never p refl
-passed-at ((false, suc n) ∷ ts) i p e = absurd (omega arith)
+pub restore-passed : (rx : Receiver) (form store : List ℕ) → restoreNumber rx form store ≡ 0 → (i : ℕ) → getD (restoreTests rx form store) i (true, 0) .0 ≡ true
+unfolding restoreNumber
+restore-passed rx form store none i = passed-at (restoreTests rx form store) i (tests-numbered rx form store) none
 
 -- three octets of an address
 three-same : (x y z : ℕ) → x < 256 → y < 256 → z < 256 → threeOctets (65536 * x + 256 * y + z) ≡ x ∷ y ∷ z ∷ []
@@ -147,13 +143,8 @@ module _ (rx : Receiver) (form store : List ℕ) (small : Octets form) (none : r
   abbrev b : List ℕ
   b = block1 form
 
-  tests-numbered : numbered (restoreTests rx form store) ≡ true
-  unfolding restoreTests layoutTests
-  tests-numbered = refl
-
   test : (i : ℕ) → getD (restoreTests rx form store) i (true, 0) .0 ≡ true
-  unfolding restoreNumber
-  test i = passed-at (restoreTests rx form store) i tests-numbered none
+  test = restore-passed rx form store none
 
   length-form : length form ≡ 2 * storedBlock
   unfolding restoreTests

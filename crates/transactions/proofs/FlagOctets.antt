@@ -19,7 +19,8 @@ use Rattle.polynomials.proofs.Runs.{getD-tabulate, tabulated}
 use Rattle.codes.specs.Order.{every}
 use Rattle.codes.proofs.Tests.{every-at, all-eq, all-eq₂}
 use Rattle.transactions.specs.Flags.{flagged, weights, flagOctets, withFlag}
-use Rattle.transactions.proofs.Tests.{either}
+use Rattle.codes.proofs.Filling.{getD-zeros}
+use Rattle.codes.proofs.Tests.{either}
 
 -- ---- one octet
 
@@ -105,11 +106,6 @@ flagged-with os n m octet room = go (ℕ-discrete (m / 8) (n / 8))
 unset : (os : List ℕ) (n : ℕ) → getD os (n / 8) 0 ≡ 0 → flagged os n ≡ false
 unfolding flagged
 unset os n e = rw (e, zero-div (2 ^ (n % 8)))
-
-getD-zeros : (size i : ℕ) → getD (replicate {A = ℕ} size 0) i 0 ≡ 0
-getD-zeros zero i = refl
-getD-zeros (suc size) zero = refl
-getD-zeros (suc size) (suc i) = getD-zeros size i
 
 pub flagged-none : (n : ℕ) → flagged (replicate 8 0) n ≡ false
 flagged-none n = unset (replicate 8 0) n (getD-zeros 8 (n / 8))

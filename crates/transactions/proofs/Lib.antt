@@ -1,4 +1,3 @@
-pub mod Tests
 pub mod Order
 pub mod FlagOctets
 pub mod Hearing
