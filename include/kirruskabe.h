@@ -60,7 +60,10 @@ uint8_t kirruskabe_on_block(uint8_t *form, size_t form_len, uint16_t stamp, cons
                             uint8_t *line, size_t line_len); /* 1, 13, 12, 14, 15 */
 uint8_t kirruskabe_on_end(uint8_t *form, size_t form_len, uint16_t stamp, uint8_t *line, size_t line_len); /* 12 */
 
-/* ---- writing */
+/* ---- writing
+
+   What these functions write the functions below read back as it was given. They do so too from a burst or a datagram that has since got
+   at most 3 wrong bits in its slot type, and in its block field wrong bits of which more than one stand in at most one of the 15 columns. */
 
 /* A message of this length: out (2 octets) gets the number of its blocks and its pad. 16: over 626 octets. */
 uint8_t kirruskabe_message_size(size_t length, uint8_t *out, size_t out_len);
