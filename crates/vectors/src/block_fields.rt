@@ -1,6 +1,7 @@
 // Block fields, written and read. Position i of the plain order is bit 181 i mod 196 of the field, the first bit highest in octet 0.
 // Row r, column c of the matrix is plain position 1 + 15 r + c.
-ghost use Prim.Native.Nat.{_<_, _≤_};
+ghost use mathlib.Core.Path.{_≡_};
+ghost use Prim.Native.Nat.{_+_, _%_, _^_, _<_, _≤_};
 use codes::block_field;
 use report::Tally;
 
@@ -70,25 +71,32 @@ fn deciding(field: [u8; 25]) -> Places
 // The case of the first n places.
 fn first(t: Tally, n: usize, at: [u8; 196], expected: &[u8]) -> Tally
     requires { ⌜ n ≤ 196 ⌝ }
+    ensures { λ r. ⌜ r .cases ≡ (t .cases + 1) % 2 ^ 32 ⌝ }
 {
     report::positions(t, &at[..n], expected)
 }
 
-fn sent_at(t: Tally, text: &[u8], field: [u8; 25], expected: &[u8]) -> Tally {
+fn sent_at(t: Tally, text: &[u8], field: [u8; 25], expected: &[u8]) -> Tally
+    ensures { λ r. ⌜ r .cases ≡ (t .cases + 1) % 2 ^ 32 ⌝ }
+{
     let found = deciding(field);
     let at = found.at;
     report::name(b"sent positions of plain positions ", text);
     first(t, found.n, at, expected)
 }
 
-fn written(t: Tally, text: &[u8], info: [u8; 12], expected: &[u8]) -> Tally {
+fn written(t: Tally, text: &[u8], info: [u8; 12], expected: &[u8]) -> Tally
+    ensures { λ r. ⌜ r .cases ≡ (t .cases + 1) % 2 ^ 32 ⌝ }
+{
     let field = block_field::write(info);
     report::name(b"writing ", text);
     report::octets(t, &field, expected)
 }
 
 // What a field reads as: its 12 octets, or the number of its refusal in one.
-fn read(t: Tally, text: &[u8], field: &[u8], expected: &[u8]) -> Tally {
+fn read(t: Tally, text: &[u8], field: &[u8], expected: &[u8]) -> Tally
+    ensures { λ r. ⌜ r .cases ≡ (t .cases + 1) % 2 ^ 32 ⌝ }
+{
     let found = block_field::read(field);
     report::name(b"reading ", text);
     if found.number != 0 {
@@ -99,18 +107,24 @@ fn read(t: Tally, text: &[u8], field: &[u8], expected: &[u8]) -> Tally {
     report::octets(t, &info, expected)
 }
 
-fn refused(t: Tally, text: &[u8], field: &[u8], expected: u32) -> Tally {
+fn refused(t: Tally, text: &[u8], field: &[u8], expected: u32) -> Tally
+    ensures { λ r. ⌜ r .cases ≡ (t .cases + 1) % 2 ^ 32 ⌝ }
+{
     report::name(b"reading ", text);
     report::number(t, 1, number_of(field), expected)
 }
 
-fn parity(t: Tally, text: &[u8], value: u32, expected: u32) -> Tally {
+fn parity(t: Tally, text: &[u8], value: u32, expected: u32) -> Tally
+    ensures { λ r. ⌜ r .cases ≡ (t .cases + 1) % 2 ^ 32 ⌝ }
+{
     report::name(b"parity of ", text);
     report::number(t, 1, value, expected)
 }
 
 // The data bits are those of row 1, of row 0 and of column 3. Their parity is in columns 11 to 14, and in rows 9 to 12.
-fn parity_bits(mut t: Tally) -> Tally {
+fn parity_bits(mut t: Tally) -> Tally
+    ensures { λ r. ⌜ r .cases ≡ (t .cases + 3) % 2 ^ 32 ⌝ }
+{
     let row_1 = block_field::write(*b"\0\x80\0\0\0\0\0\0\0\0\0\0");
     let row_0 = block_field::write(*b"\x01\0\0\0\0\0\0\0\0\0\0\0");
     let column_3 = block_field::write(*b"\x80\0\0\0\0\0\0\0\0\0\0\0");
@@ -122,7 +136,9 @@ fn parity_bits(mut t: Tally) -> Tally {
     parity(t, b"nine bits, only the first 1", first_9, 0b1111)
 }
 
-fn last_bit(mut t: Tally) -> Tally {
+fn last_bit(mut t: Tally) -> Tally
+    ensures { λ r. ⌜ r .cases ≡ (t .cases + 2) % 2 ^ 32 ⌝ }
+{
     let found = ones(block_field::write(*b"\0\0\0\0\0\0\0\0\0\0\0\x01"));
     let at = found.at;
     let expected = [131u8, 134, 135, 176, 179, 180, 191, 194, 195];
@@ -138,7 +154,9 @@ fn last_bit(mut t: Tally) -> Tally {
 // Plain positions 1, 2 and 3 are R(2), R(1) and R(0). They are always written 0, so the reader shows where they are sent. Each field
 // is that of one of them 1 and no other data bit, but with column 11 all 0, and with rows 0 and 1 wrong in the column of the
 // reserved bit. That is two bad columns, unless one of those two bits is changed: then the field reads as number 7.
-fn interleaving(mut t: Tally) -> Tally {
+fn interleaving(mut t: Tally) -> Tally
+    ensures { λ r. ⌜ r .cases ≡ (t .cases + 4) % 2 ^ 32 ⌝ }
+{
     let r2 =
         *b"\x00\x01\x00\x04\x00\x08\x00\x20\x00\x40\x01\x00\x02\x00\x08\x00\x00\x00\x00\x80\x01\x00\x00\x00\x00";
     let r1 =
@@ -152,7 +170,9 @@ fn interleaving(mut t: Tally) -> Tally {
 }
 
 // The field of the published idle burst. Its information is written as the field again, so no bit was put right.
-fn idle(mut t: Tally) -> Tally {
+fn idle(mut t: Tally) -> Tally
+    ensures { λ r. ⌜ r .cases ≡ (t .cases + 2) % 2 ^ 32 ⌝ }
+{
     let field =
         *b"\x53\xc2\x5e\xab\xa8\x67\x1d\xc7\x38\x3b\xd9\x36\x3f\x6e\x46\x51\x71\xb4\x8c\xa6\xd4\xfc\x61\x0b\x40";
     let info = *b"\xff\x83\xdf\x17\x32\x09\x4e\xd1\xe7\xcd\x8a\x91";
@@ -162,7 +182,9 @@ fn idle(mut t: Tally) -> Tally {
 
 // A field, and the same with other bits. The free bits are the first and the last four. One bad column: all of column 4 is wrong,
 // and a bit of every other column. Two bad columns: two bits of column 4 are wrong, and two of column 5.
-fn damage(mut t: Tally) -> Tally {
+fn damage(mut t: Tally) -> Tally
+    ensures { λ r. ⌜ r .cases ≡ (t .cases + 4) % 2 ^ 32 ⌝ }
+{
     let info = *b"\x01\x02\x03\x04\x05\x06\x07\x08\x09\x0a\x0b\x0c";
     let field =
         *b"\x06\xd1\x05\xf9\x00\xe8\x10\x53\x01\x22\xd2\x40\x87\x82\xb3\x8c\xbc\x20\x92\x30\xf9\xc1\x42\x70\x40";
@@ -179,7 +201,9 @@ fn damage(mut t: Tally) -> Tally {
 }
 
 // The first field has R(2) 1 and no other data bit.
-fn refusals(mut t: Tally) -> Tally {
+fn refusals(mut t: Tally) -> Tally
+    ensures { λ r. ⌜ r .cases ≡ (t .cases + 3) % 2 ^ 32 ⌝ }
+{
     let reserved =
         *b"\x00\x01\x80\x04\x00\x08\x00\x28\x00\x40\x01\x40\x02\x00\x0a\x00\x00\x00\x10\x00\x01\x00\x04\x00\x00";
     t = refused(t, b"a field with R(2) 1, number", &reserved, 7);
@@ -187,8 +211,20 @@ fn refusals(mut t: Tally) -> Tally {
     refused(t, b"26 octets, number", &[0u8; 26], 1)
 }
 
-pub fn cases(mut t: Tally) -> Tally {
-    t = last_bit(parity_bits(t));
-    t = damage(idle(interleaving(t)));
-    refusals(t)
+fn writing(t: Tally) -> Tally
+    ensures { λ r. ⌜ r .cases ≡ (t .cases + 5) % 2 ^ 32 ⌝ }
+{
+    last_bit(parity_bits(t))
+}
+
+fn reading(t: Tally) -> Tally
+    ensures { λ r. ⌜ r .cases ≡ (t .cases + 13) % 2 ^ 32 ⌝ }
+{
+    refusals(damage(idle(interleaving(t))))
+}
+
+pub fn cases(t: Tally) -> Tally
+    ensures { λ r. ⌜ r .cases ≡ (t .cases + 18) % 2 ^ 32 ⌝ }
+{
+    reading(writing(t))
 }

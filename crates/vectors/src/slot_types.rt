@@ -1,4 +1,6 @@
 // Slot types, written and read.
+ghost use mathlib.Core.Path.{_≡_};
+ghost use Prim.Native.Nat.{_+_, _%_, _^_};
 use codes::slot_type;
 use codes::slot_type::SlotType;
 use report::Tally;
@@ -12,17 +14,23 @@ fn reading(word: u32) -> u32 {
     }
 }
 
-fn written(t: Tally, text: &[u8], octet: u8, expected: u32) -> Tally {
+fn written(t: Tally, text: &[u8], octet: u8, expected: u32) -> Tally
+    ensures { λ r. ⌜ r .cases ≡ (t .cases + 1) % 2 ^ 32 ⌝ }
+{
     report::name(b"slot type ", text);
     report::number(t, 5, slot_type::write(octet), expected)
 }
 
-fn read(t: Tally, text: &[u8], word: u32, expected: u32) -> Tally {
+fn read(t: Tally, text: &[u8], word: u32, expected: u32) -> Tally
+    ensures { λ r. ⌜ r .cases ≡ (t .cases + 1) % 2 ^ 32 ⌝ }
+{
     report::name(b"reading slot word ", text);
     report::number(t, 2, reading(word), expected)
 }
 
-fn refused(t: Tally, text: &[u8], word: u32, expected: u32) -> Tally {
+fn refused(t: Tally, text: &[u8], word: u32, expected: u32) -> Tally
+    ensures { λ r. ⌜ r .cases ≡ (t .cases + 1) % 2 ^ 32 ⌝ }
+{
     report::name(b"reading slot word ", text);
     report::number(t, 1, reading(word) / 256, expected)
 }
@@ -39,11 +47,18 @@ fn read_back() -> u32 {
 }
 
 // The octets with a single bit. Every other word is a sum of their words.
-fn single_bits(mut t: Tally) -> Tally {
+fn low_bits(mut t: Tally) -> Tally
+    ensures { λ r. ⌜ r .cases ≡ (t .cases + 4) % 2 ^ 32 ⌝ }
+{
     t = written(t, b"01", 0x01, 0x018EB);
     t = written(t, b"02", 0x02, 0x0293E);
     t = written(t, b"04", 0x04, 0x04A97);
-    t = written(t, b"08", 0x08, 0x08DC6);
+    written(t, b"08", 0x08, 0x08DC6)
+}
+
+fn high_bits(mut t: Tally) -> Tally
+    ensures { λ r. ⌜ r .cases ≡ (t .cases + 4) % 2 ^ 32 ⌝ }
+{
     t = written(t, b"10", 0x10, 0x10367);
     t = written(t, b"20", 0x20, 0x206CD);
     t = written(t, b"40", 0x40, 0x40D99);
@@ -51,23 +66,34 @@ fn single_bits(mut t: Tally) -> Tally {
 }
 
 // 09 is idle with colour code 0.
-fn sums(mut t: Tally) -> Tally {
+fn sums(mut t: Tally) -> Tally
+    ensures { λ r. ⌜ r .cases ≡ (t .cases + 3) % 2 ^ 32 ⌝ }
+{
     t = written(t, b"09", 0x09, 0x0952D);
     t = written(t, b"16", 0x16, 0x160CE);
     written(t, b"ff", 0xFF, 0xFFD6D)
 }
 
 // The published idle burst has 0 in all twenty bits of its slot type.
-fn corrections(mut t: Tally) -> Tally {
+fn corrections(mut t: Tally) -> Tally
+    ensures { λ r. ⌜ r .cases ≡ (t .cases + 4) % 2 ^ 32 ⌝ }
+{
     t = read(t, b"018eb", 0x018EB, 0x01);
     t = read(t, b"00000, that of the idle burst", 0x00000, 0x00);
     t = read(t, b"160ce with three wrong bits", 0x160CE ^ 0x80401, 0x16);
-    t = read(t, b"160ce with three wrong parity bits", 0x160DD, 0x16);
+    read(t, b"160ce with three wrong parity bits", 0x160DD, 0x16)
+}
+
+fn all_octets(t: Tally) -> Tally
+    ensures { λ r. ⌜ r .cases ≡ (t .cases + 1) % 2 ^ 32 ⌝ }
+{
     report::name(b"octets that read back from ", b"their slot types");
     report::number(t, 3, read_back(), 0x100)
 }
 
-fn refusals(mut t: Tally) -> Tally {
+fn refusals(mut t: Tally) -> Tally
+    ensures { λ r. ⌜ r .cases ≡ (t .cases + 4) % 2 ^ 32 ⌝ }
+{
     t = refused(
         t,
         b"160ce with four wrong bits, number",
@@ -79,7 +105,20 @@ fn refusals(mut t: Tally) -> Tally {
     refused(t, b"100018eb, number", 0x1000_18EB, 1)
 }
 
-pub fn cases(mut t: Tally) -> Tally {
-    t = sums(single_bits(t));
-    refusals(corrections(t))
+fn writing(t: Tally) -> Tally
+    ensures { λ r. ⌜ r .cases ≡ (t .cases + 11) % 2 ^ 32 ⌝ }
+{
+    sums(high_bits(low_bits(t)))
+}
+
+fn reading_words(t: Tally) -> Tally
+    ensures { λ r. ⌜ r .cases ≡ (t .cases + 9) % 2 ^ 32 ⌝ }
+{
+    refusals(all_octets(corrections(t)))
+}
+
+pub fn cases(t: Tally) -> Tally
+    ensures { λ r. ⌜ r .cases ≡ (t .cases + 20) % 2 ^ 32 ⌝ }
+{
+    reading_words(writing(t))
 }
