@@ -8,6 +8,7 @@ ghost use lib.ListN.{length};
 ghost use Rattle.polynomials.specs.Bits.{zeros, octetBit};
 ghost use Rattle.polynomials.specs.Remainder.{divide, check};
 ghost use Rattle.checks.specs.Checks.{headerGenerator, headerCheck, blockCheck, messageCheck, lowestFirst, headerGood, blockGood, messageGood};
+ghost use Rattle.checks.specs.Claims.{HeaderCarries, BlockCarries, MessageCarries};
 
 const BLOCK: u32 = 0x2C80_0000;
 
@@ -36,9 +37,9 @@ fn header_remainder(octets: &[u8]) -> u16
     r
 }
 
-// The header's check with any mask.
+// The header's check with any mask. Octets that carry it are found good.
 pub fn header(mask: u16, octets: &[u8]) -> u16
-    ensures { λ r. ⌜ r ≡ headerCheck mask (now (octets .entry)) ⌝ }
+    ensures { λ r. ⌜ (r ≡ headerCheck mask (now (octets .entry))) × HeaderCarries mask (now (octets .entry)) r ⌝ }
 {
     header_remainder(octets) ^ 0xFFFF ^ mask
 }
@@ -56,9 +57,9 @@ pub fn header_good(mask: u16, octets: &[u8]) -> bool
     stored == header(mask, &octets[..m])
 }
 
-// The check of a block's data octets with the seven low bits of the serial.
+// The check of a block's data octets with the seven low bits of the serial. A block that carries it is found good.
 pub fn block(serial: u8, octets: &[u8]) -> u16
-    ensures { λ r. ⌜ r ≡ blockCheck serial (now (octets .entry)) ⌝ }
+    ensures { λ r. ⌜ (r ≡ blockCheck serial (now (octets .entry))) × BlockCarries serial (now (octets .entry)) r ⌝ }
 {
     let data = polynomials::check_of(BLOCK, octets);
     let all = polynomials::shifts(BLOCK, data ^ (((serial % 128) as u32) << 25), 7);
@@ -109,9 +110,9 @@ pub fn message(octets: &[u8]) -> u32
     r
 }
 
-// The four octets of the message's check, the lowest first.
+// The four octets of the message's check, the lowest first. Octets that carry them are found good.
 pub fn message_octets(octets: &[u8]) -> [u8; 4]
-    ensures { λ r. ⌜ r ≡ lowestFirst (messageCheck (now (octets .entry))) ⌝ }
+    ensures { λ r. ⌜ (r ≡ lowestFirst (messageCheck (now (octets .entry)))) × MessageCarries (now (octets .entry)) r ⌝ }
 {
     let c = message(octets);
     [

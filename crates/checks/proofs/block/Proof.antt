@@ -1,7 +1,7 @@
 -- `checks::block` meets its contract: the register takes in the seven bits of the serial behind the data octets;
 -- the generator stands 23 bits higher in the register, and so does the check.
 -- Assumes nothing.
-use mathlib.Core.Path.{_≡_, ap₂, _∙_}
+use mathlib.Core.Path.{_≡_, sym, ap₂, subst, _∙_}
 use Prim.Native.Nat.{ℕ, _+_, _*_, _%_, _^_}
 use native.Mathlib.Omega.{arith}
 use lib.Bits.{bitXor}
@@ -11,6 +11,8 @@ use Rattle.polynomials.specs.Bits.{zeros, octetBit}
 use Rattle.polynomials.specs.Remainder.{divide}
 use Rattle.polynomials.proofs.Runs.{octetBit-bits}
 use Rattle.checks.specs.Checks.{blockGenerator, blockCheck}
+use Rattle.checks.specs.Claims.{BlockCarries}
+use Rattle.checks.proofs.Claims.{claims}
 use Rattle.checks.proofs.Masked.{masked-high, check-digits}
 use Rattle.checks.proofs.BlockChecks.{blockBits, blockBits-bits}
 use Rattle.checks.proofs.block.Statement.{statement}
@@ -35,10 +37,12 @@ returns c =
     let os = a .octets .now in
     let g : ℕ = blockGenerator * 2 ^ 23 in
     let top : a .serial % 128 * 2 ^ 25 % 2 ^ 32 ≡ a .serial % 128 * 2 ^ 25 = omega arith in
+    let is =
     masked-high 8 blockGenerator 23 _ (blockBits (a .serial) os) (blockBits-bits (a .serial) os) (8 * length os + 7) (c .shifts .result)
     (c .shifts .ensures
     ∙ ap₂ (λ (x y : ℕ). divide 32 g (bitXor x y) zeros 7) (c .before .check-of .ensures) top
-    ∙ check-digits 32 g (octetBit os) (octetBit-bits os) (8 * length os) 7 (a .serial) (omega arith))
+    ∙ check-digits 32 g (octetBit os) (octetBit-bits os) (8 * length os) 7 (a .serial) (omega arith)) in
+    (is, subst (λ (x : ℕ). BlockCarries (a .serial) os x) (sym is) (claims .block (a .serial) os))
 
 pub block-spec : {M : Type 1} → statement M
 block-spec = tie.close (tie.spec check-of-requires cast-shifts shifts-requires cast-result returns)

@@ -53,7 +53,7 @@ returns : tie.Need-returns Inv-loop μ-loop
 returns c =
     let a = c .before .before .before .before .before .args in
     let l = c .before .before .before .loop in
-    c .message-octets .ensures ∙ ap (λ (os : List ℕ). lowestFirst (messageCheck os)) (stored (a .message .now) (a .end) (l .i) _ (c .before .before .before .before .before .pre) (omega arith) (l .inv .1))
+    c .message-octets .ensures .0 ∙ ap (λ (os : List ℕ). lowestFirst (messageCheck os)) (stored (a .message .now) (a .end) (l .i) _ (c .before .before .before .before .before .pre) (omega arith) (l .inv .1))
 
 pub check-of-spec : {M : Type 1} → statement M
 check-of-spec =

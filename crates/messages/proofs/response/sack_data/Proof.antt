@@ -49,7 +49,7 @@ array-read-t42 : tie.Need-array-read-t42
 array-read-t42 c = search needs
 
 returns : tie.Need-returns
-returns c = data-is (c .before .before .args .t1) _ (omega arith) (c .message-octets .ensures)
+returns c = data-is (c .before .before .args .t1) _ (omega arith) (c .message-octets .ensures .0)
 
 pub sack-data-spec : {M : Type 1} → statement M
 sack-data-spec =

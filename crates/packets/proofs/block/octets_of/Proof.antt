@@ -21,10 +21,10 @@ mul-os : tie.Need-mul-os Inv-loop μ-loop
 mul-os c = omega arith
 
 cast-os : tie.Need-cast-os Inv-loop μ-loop
-cast-os c = omega (arith, c .block .ensures, blockCheck-lt (c .before .before .args .serial) (c .before .before .args .octets .now))
+cast-os c = omega (arith, c .block .ensures .0, blockCheck-lt (c .before .before .args .serial) (c .before .before .args .octets .now))
 
 add-os : tie.Need-add-os Inv-loop μ-loop
-add-os c = omega (arith, c .block .ensures, blockCheck-lt (c .before .before .args .serial) (c .before .before .args .octets .now))
+add-os c = omega (arith, c .block .ensures .0, blockCheck-lt (c .before .before .args .serial) (c .before .before .args .octets .now))
 
 array-write-os : tie.Need-array-write-os Inv-loop μ-loop
 array-write-os c = omega arith
@@ -36,7 +36,7 @@ array-write-os-2 : tie.Need-array-write-os-2 Inv-loop μ-loop
 array-write-os-2 c = omega arith
 
 loop-holds : tie.Need-loop-holds Inv-loop μ-loop
-loop-holds c = (omega arith, front (c .before .before .args .serial) (c .before .before .args .octets .now) _ (c .block .ensures))
+loop-holds c = (omega arith, front (c .before .before .args .serial) (c .before .before .args .octets .now) _ (c .block .ensures .0))
 
 shared-slice-read-os : tie.Need-shared-slice-read-os Inv-loop μ-loop
 shared-slice-read-os c = omega arith

@@ -113,7 +113,7 @@ array-write-os-12 c = search needs
 returns : tie.Need-returns
 returns c =
     let a = c .before .before .before .before .before .before .before .before .before .before .before .args in
-    octets-are (a .format) (a .c) (a .last) _ _ (c .before .before .before .before .before .before .before .before .before .before .radio-octets .ensures) (c .before .before .before .before .before .before .before .before .before .radio-octets2 .ensures) _ (c .header .ensures)
+    octets-are (a .format) (a .c) (a .last) _ _ (c .before .before .before .before .before .before .before .before .before .before .radio-octets .ensures) (c .before .before .before .before .before .before .before .before .before .radio-octets2 .ensures) _ (c .header .ensures .0)
 
 pub octets-of-spec : {M : Type 1} → statement M
 octets-of-spec =

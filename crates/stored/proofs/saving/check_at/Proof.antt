@@ -45,7 +45,7 @@ returns c =
     let st = c .before .before .before .before .before .before .before .before .before in
     let k : st .args .at + checkedSize - st .args .at ≡ checkedSize = omega arith in
     c .before .before .copy-at .ensures
-    ∙ ap (λ (x : ℕ). over (st .args .to .now) (st .args .at + checkedSize) (x / 256 ∷ x % 256 ∷ [])) (rw k at (c .before .before .before .before .before .header .ensures))
+    ∙ ap (λ (x : ℕ). over (st .args .to .now) (st .args .at + checkedSize) (x / 256 ∷ x % 256 ∷ [])) (rw k at (c .before .before .before .before .before .header .ensures .0))
 
 pub check-at-spec : {M : Type 1} → statement M
 check-at-spec =
