@@ -62,8 +62,8 @@ uint8_t kirruskabe_on_end(uint8_t *form, size_t form_len, uint16_t stamp, uint8_
 
 /* ---- writing
 
-   What these functions write the functions below read back as it was given. They do so too from a burst or a datagram that has since got
-   at most 3 wrong bits in its slot type, and in its block field wrong bits of which more than one stand in at most one of the 15 columns. */
+   What these functions write the functions below read back as it was given. So they do where the slot type of a burst or a datagram has
+   got at most 3 wrong bits, and at most one of the 15 columns of its block field holds more than one wrong bit. */
 
 /* A message of this length: out (2 octets) gets the number of its blocks and its pad. 16: over 626 octets. */
 uint8_t kirruskabe_message_size(size_t length, uint8_t *out, size_t out_len);

@@ -4,10 +4,10 @@ use mathlib.Core.Path.{_≡_}
 use mathlib.Core.Bool.{true, false}
 use mathlib.Core.List.{List}
 use mathlib.Core.Logic.{_≢_, _⊎_, _↔_}
-use Prim.Native.Nat.{ℕ, _%_, _≤_, _<_}
+use Prim.Native.Nat.{ℕ, _+_, _*_, _%_, _≤_, _<_}
 use lib.ListN.{length, getD}
 use Rattle.codes.specs.SlotWord.{slotWord, distance}
-use Rattle.codes.specs.Field.{fieldNumber, Correctable}
+use Rattle.codes.specs.Field.{writtenField, fieldNumber, Correctable}
 use Rattle.bursts.specs.Bursts.{kindOf, known, slotBits, fieldOf, readBurst, writtenBurst, writeBurst}
 use Rattle.bursts.specs.declared.burst.Sync.{Sync}
 
@@ -39,7 +39,11 @@ pub record BurstClaims : Type 0 where
   pub reads-back : (colour type : ℕ) (info : List ℕ) (sync : Sync) → colour < 16 → known (kindOf type) ≡ true → length info ≡ 12
       → ((j : ℕ) → getD info j 0 < 256)
       → readBurst (writtenBurst colour type info sync) ≡ record { number = 0; colour = colour; datatype = type; info = info }
-  -- also with wrong bits
+  -- its slot type and its block field are the codes' words
+  pub slot : (colour type : ℕ) (info : List ℕ) (sync : Sync) → colour < 16 → type < 16
+      → slotBits (writtenBurst colour type info sync) ≡ slotWord (16 * colour + type)
+  pub field : (colour type : ℕ) (info : List ℕ) (sync : Sync) → fieldOf (writtenBurst colour type info sync) ≡ writtenField info
+  -- it comes back also with wrong bits
   pub comes-back : (colour type : ℕ) (info : List ℕ) (sync : Sync) → colour < 16 → known (kindOf type) ≡ true → length info ≡ 12
       → ((j : ℕ) → getD info j 0 < 256) → BurstComesBack colour type info (writtenBurst colour type info sync)
   -- each number of reading is given exactly if its row is true, and there are no others

@@ -332,8 +332,8 @@ fn sent_octets(p: &[u8; 196]) -> [u8; 25]
     f
 }
 
-// The 25 octets of the block field for 12 octets of information. They come back with wrong bits of which more than one stand in at most
-// one of the 15 columns.
+// The 25 octets of the block field for 12 octets of information. They come back also where at most one of the 15 columns holds more than
+// one wrong bit.
 pub fn write(info: [u8; 12]) -> [u8; 25]
     ensures { λ r. ⌜ (r ≡ writtenField info) × FieldComesBack info r ⌝ }
 {

@@ -131,11 +131,11 @@ module _ (l : Labels) (colour type : ℕ) (info : List ℕ) (sync : Sync) where
   unfolding writtenDatagram head burst
   written-size = omega (arith, length-append head burst, labels-length l type, written-length colour type info sync)
 
-  written-head : take 20 (writtenDatagram l colour type info sync) ≡ labelOctets l type
+  pub written-head : take 20 (writtenDatagram l colour type info sync) ≡ labelOctets l type
   unfolding writtenDatagram head burst
   written-head = take-at head burst 20 (labels-length l type)
 
-  written-burst : burstOf (writtenDatagram l colour type info sync) ≡ writtenBurst colour type info sync
+  pub written-burst : burstOf (writtenDatagram l colour type info sync) ≡ writtenBurst colour type info sync
   unfolding writtenDatagram head burst
   written-burst = drop-at head burst 20 (labels-length l type)
 

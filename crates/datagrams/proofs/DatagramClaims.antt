@@ -4,7 +4,7 @@ use mathlib.Core.Path.{_≡_, refl}
 use Rattle.datagrams.specs.Datagrams.{nextSequence}
 use Rattle.datagrams.specs.DatagramClaims.{DatagramClaims}
 use Rattle.datagrams.proofs.DatagramNumbers.{read-number}
-use Rattle.datagrams.proofs.DatagramBack.{reads-back, comes-back}
+use Rattle.datagrams.proofs.DatagramBack.{written-head, written-burst, reads-back, comes-back}
 use Rattle.datagrams.proofs.DatagramRows.{zero, one, two, three, four, five, six, seven, no-other, writes, sixteen}
 
 wraps : nextSequence 255 ≡ 0
@@ -15,6 +15,8 @@ pub datagrams : DatagramClaims
 datagrams = record {
   wraps = wraps;
   reads-back = reads-back;
+  first = written-head;
+  burst = written-burst;
   comes-back = comes-back;
   numbered = read-number;
   zero = zero;

@@ -8,9 +8,9 @@ use Prim.Native.Nat.{ℕ, _%_, _^_, _≤_, _<_}
 use lib.ListN.{length, getD, take}
 use Rattle.codes.specs.SlotWord.{distance}
 use Rattle.codes.specs.Field.{fieldNumber, Correctable}
-use Rattle.bursts.specs.Bursts.{kindOf, known, slotBits, fieldOf}
+use Rattle.bursts.specs.Bursts.{kindOf, known, slotBits, fieldOf, writtenBurst}
 use Rattle.bursts.specs.BurstClaims.{Near}
-use Rattle.datagrams.specs.Datagrams.{prefix, nextSequence, frameOf, namedType, burstOf, datagramNumber, readDatagram, writtenDatagram, writeDatagram}
+use Rattle.datagrams.specs.Datagrams.{prefix, nextSequence, frameOf, namedType, burstOf, datagramNumber, readDatagram, labelOctets, writtenDatagram, writeDatagram}
 use Rattle.bursts.specs.declared.burst.Sync.{Sync}
 use Rattle.datagrams.specs.declared.Labels.{Labels}
 
@@ -70,7 +70,11 @@ pub record DatagramClaims : Type 0 where
   pub reads-back : (l : Labels) (colour type : ℕ) (info : List ℕ) (sync : Sync) → Fits l → colour < 16 → known (kindOf type) ≡ true
       → length info ≡ 12 → ((j : ℕ) → getD info j 0 < 256)
       → readDatagram (writtenDatagram l colour type info sync) ≡ record { number = 0; labels = l; colour = colour; datatype = type; info = info }
-  -- also with wrong bits
+  -- its first 20 octets are the labels' and the data type's, and the burst's stand behind them
+  pub first : (l : Labels) (colour type : ℕ) (info : List ℕ) (sync : Sync) → take 20 (writtenDatagram l colour type info sync) ≡ labelOctets l type
+  pub burst : (l : Labels) (colour type : ℕ) (info : List ℕ) (sync : Sync)
+      → burstOf (writtenDatagram l colour type info sync) ≡ writtenBurst colour type info sync
+  -- it comes back also with wrong bits
   pub comes-back : (l : Labels) (colour type : ℕ) (info : List ℕ) (sync : Sync) → Fits l → colour < 16 → known (kindOf type) ≡ true
       → length info ≡ 12 → ((j : ℕ) → getD info j 0 < 256) → DatagramComesBack l colour type info (writtenDatagram l colour type info sync)
   -- each number of reading is given exactly if its row is true, and there are no others
