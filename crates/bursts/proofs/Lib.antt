@@ -1,4 +1,3 @@
-pub mod RunParts
 pub mod Variants
 pub mod DataTypes
 pub mod Reading

@@ -7,9 +7,9 @@ use Prim.Native.Nat.{ℕ, _+_, _/_, _%_, _^_, _≤_, _<_}
 use lib.Dec.{eqb}
 use lib.ListN.{length, replicate}
 use borrow.Author.Tests.{eq-eqb, ne-eqb, eqb-true, lt-ltb, le-ltb}
-use Rattle.polynomials.specs.Bits.{octetBit}
-use Rattle.polynomials.proofs.Runs.{followed-bits, number-lt, octetBit-bits}
-use Rattle.codes.specs.Order.{firstFailed}
+use Rattle.foundation.specs.Bits.{octetBit}
+use Rattle.foundation.proofs.Runs.{followed-bits, number-lt, octetBit-bits}
+use Rattle.foundation.specs.Order.{firstFailed}
 use Rattle.codes.specs.SlotWord.{readSlotType, slotNumber}
 use Rattle.codes.specs.Field.{readField}
 use Rattle.codes.specs.declared.block_field.BlockField.{BlockField}

@@ -6,11 +6,11 @@ use Prim.Native.Nat.{ℕ, _+_, _*_, _-_, _/_, _%_, _≤_, _<_}
 use native.Mathlib.Omega.{arith}
 use lib.Dec.{lit≤}
 use lib.ListN.{getD}
-use Rattle.polynomials.specs.Bits.{octetBit, number}
-use Rattle.polynomials.proofs.Runs.{number-followed, number-from, octet-at}
+use Rattle.foundation.specs.Bits.{octetBit, number}
+use Rattle.foundation.proofs.Runs.{number-followed, number-from, octet-at}
 use Rattle.bursts.specs.Bursts.{slotBits}
 use Rattle.bursts.specs.Parts.{fieldRun}
-use Rattle.bursts.proofs.RunParts.{number-before, number-after, number-across, number-shifted, number-in-octet, number-last-octet}
+use Rattle.foundation.proofs.RunParts.{number-before, number-after, number-across, number-shifted, number-in-octet, number-last-octet}
 
 module _ (b : List ℕ) where
   -- ---- the slot type

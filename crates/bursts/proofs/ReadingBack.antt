@@ -11,8 +11,8 @@ use lib.Bits.{xor-self}
 use lib.Count.{ones}
 use lib.Dec.{lit≤}
 use lib.ListN.{getD, length}
-use Rattle.polynomials.specs.Bits.{digits, octetBit, zeros, followed, number, octets}
-use Rattle.polynomials.proofs.Runs.{octetBit-octets, octets-ext, followed-bits, followed-first, followed-rest, zeros-bits, number-one, number-append, number-whole}
+use Rattle.foundation.specs.Bits.{digits, octetBit, zeros, followed, number, octets}
+use Rattle.foundation.proofs.Runs.{octetBit-octets, octets-ext, followed-bits, followed-first, followed-rest, zeros-bits, number-one, number-append, number-whole}
 use Rattle.codes.specs.SlotWord.{slotWord, distance}
 use Rattle.codes.specs.Field.{plainAt, information, product, plain, sentBits, sent, writtenField, readField, Correctable}
 use Rattle.codes.proofs.SlotWords.{slotWord-lt}
@@ -24,7 +24,7 @@ use Rattle.bursts.specs.Parts.{fieldRun}
 use Rattle.bursts.specs.declared.burst.Burst.{Burst}
 use Rattle.bursts.specs.declared.burst.BurstOctets.{BurstOctets}
 use Rattle.bursts.specs.declared.burst.Sync.{Sync}
-use Rattle.bursts.proofs.RunParts.{number-octets, octetBit-past, length-octets}
+use Rattle.foundation.proofs.RunParts.{number-octets, octetBit-past, length-octets}
 use Rattle.bursts.proofs.DataTypes.{known-lt}
 use Rattle.bursts.proofs.Reading.{slot-halves, field-behind}
 use Rattle.bursts.proofs.Writing.{burst-bits, in-field, in-slot, in-slot-end, in-field-end}

@@ -10,7 +10,7 @@ use native.Mathlib.Omega.{arith}
 use lib.Dec.{lit<}
 use lib.ListN.{length}
 use borrow.Author.Tests.{eq-eqb}
-use Rattle.codes.specs.Order.{firstFailed}
+use Rattle.foundation.specs.Order.{firstFailed}
 use Rattle.codes.specs.SlotWord.{readSlotType, slotNumber}
 use Rattle.codes.specs.Field.{correctedField, rowsGood, columnsGood, reservedClear, matrixTests, fieldNumber, readField}
 use Rattle.codes.specs.declared.slot_type.SlotType.{SlotType}

@@ -6,13 +6,13 @@ use Prim.Native.Nat.{ℕ, _+_, _*_, _-_, _/_, _%_, _^_, _≤_, _<_}
 use native.Mathlib.Omega.{arith}
 use lib.Dec.{lit≤}
 use lib.ListN.{getD}
-use Rattle.polynomials.specs.Bits.{Bits, digits, octetBit, followed, number, octets}
-use Rattle.polynomials.proofs.Runs.{digits-bits, octetBit-bits, followed-bits, octet-at}
+use Rattle.foundation.specs.Bits.{Bits, digits, octetBit, followed, number, octets}
+use Rattle.foundation.proofs.Runs.{digits-bits, octetBit-bits, followed-bits, octet-at}
 use Rattle.codes.specs.SlotWord.{slotWord}
 use Rattle.codes.specs.Field.{writtenField}
 use Rattle.bursts.specs.Bursts.{syncWord, burstBits, writtenBurst}
 use Rattle.bursts.specs.declared.burst.Sync.{Sync}
-use Rattle.bursts.proofs.RunParts.{number-before, number-after, number-across, number-shifted, number-in-digits, number-last-digits, number-in-octet, number-last-octet}
+use Rattle.foundation.proofs.RunParts.{number-before, number-after, number-across, number-shifted, number-in-digits, number-last-digits, number-in-octet, number-last-octet}
 
 module _ (f : List ℕ) (slot sync : ℕ) where
   -- what is left of the burst behind each of its parts

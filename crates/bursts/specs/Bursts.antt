@@ -6,8 +6,8 @@ use mathlib.Core.List.{List, [], _∷_}
 use Prim.Native.Nat.{ℕ, _+_, _*_, _/_, _%_}
 use lib.Dec.{eqb, ltb}
 use lib.ListN.{length, replicate}
-use Rattle.polynomials.specs.Bits.{digits, octetBit, followed, number, octets}
-use Rattle.codes.specs.Order.{firstFailed}
+use Rattle.foundation.specs.Bits.{digits, octetBit, followed, number, octets}
+use Rattle.foundation.specs.Order.{firstFailed}
 use Rattle.codes.specs.SlotWord.{slotWord, readSlotType, slotNumber}
 use Rattle.codes.specs.Field.{writtenField, readField}
 use Rattle.codes.specs.declared.block_field.BlockField.{BlockField}

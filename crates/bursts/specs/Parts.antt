@@ -5,7 +5,7 @@ use mathlib.Core.Bool.{true}
 use mathlib.Core.List.{List}
 use Prim.Native.Nat.{ℕ, _+_, _%_}
 use lib.ListN.{length}
-use Rattle.polynomials.specs.Bits.{octetBit, followed}
+use Rattle.foundation.specs.Bits.{octetBit, followed}
 use Rattle.codes.specs.declared.slot_type.SlotType.the-variants.{Data}
 use Rattle.bursts.specs.Bursts.{kindOf, known, burstSlot}
 

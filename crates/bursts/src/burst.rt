@@ -2,7 +2,7 @@
 ghost use mathlib.Core.Path.{_≡_};
 ghost use lib.ListN.{length};
 ghost use Prim.Native.Nat.{_*_, _%_, _<_};
-ghost use Rattle.polynomials.specs.Bits.{number, octets};
+ghost use Rattle.foundation.specs.Bits.{number, octets};
 ghost use Rattle.bursts.specs.Bursts.{kindOf, slotBits, fieldOf, burstSlot, burstField, refusedBurst, readBurst, syncWord, burstBits, writtenBurst, writeBurst};
 ghost use Rattle.bursts.specs.BurstClaims.{BurstComesBack};
 ghost use Rattle.bursts.specs.Parts.{fieldRun, Typed};

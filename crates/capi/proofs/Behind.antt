@@ -7,8 +7,8 @@ use Prim.Native.Nat.{ℕ}
 use lib.Dec.{eqb}
 use lib.ListN.{length}
 use borrow.Author.Tests.{eqb-true, eq-eqb, ne-eqb}
-use Rattle.codes.specs.Order.{firstFailed}
-use Rattle.codes.proofs.Tests.{either}
+use Rattle.foundation.specs.Order.{firstFailed}
+use Rattle.foundation.proofs.Tests.{either}
 use Rattle.layouts.specs.Lent.{Gives}
 use Rattle.layouts.proofs.Giving.{refused-with-1}
 use Rattle.capi.specs.Answers.{behind}

@@ -10,9 +10,9 @@ use lib.Pow.{shr-shr}
 use lib.Bits.{bitXor}
 use lib.Dec.{eqb}
 use lib.ListN.{length, take, getD, length-append}
-use Rattle.polynomials.specs.Bits.{zeros, octetBit}
+use Rattle.foundation.specs.Bits.{zeros, octetBit}
 use Rattle.polynomials.specs.Remainder.{divide, check}
-use Rattle.polynomials.proofs.Runs.{octetBit-bits}
+use Rattle.foundation.proofs.Runs.{octetBit-bits}
 use Rattle.polynomials.proofs.Check.{check-lt}
 use Rattle.polynomials.proofs.Register.{octet-more}
 use Rattle.checks.specs.Checks.{messageGenerator, exchanged, messageCheck, lowestFirst, lowestNumber, messageGood}

@@ -5,7 +5,7 @@ ghost use mathlib.Core.Bool.{cond};
 ghost use Prim.Native.Nat.{_+_, _*_, _-_, _%_, _<_};
 ghost use lib.Dec.{eqb, ltb};
 ghost use lib.ListN.{length};
-ghost use Rattle.polynomials.specs.Bits.{zeros, octetBit};
+ghost use Rattle.foundation.specs.Bits.{zeros, octetBit};
 ghost use Rattle.polynomials.specs.Remainder.{divide, check};
 ghost use Rattle.checks.specs.Checks.{headerGenerator, headerCheck, blockCheck, messageCheck, lowestFirst, headerGood, blockGood, messageGood};
 ghost use Rattle.checks.specs.Claims.{HeaderCarries, BlockCarries, MessageCarries};

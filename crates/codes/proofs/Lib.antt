@@ -1,4 +1,3 @@
-pub mod Tests
 pub mod Ones
 pub mod SlotWords
 pub mod SlotReading
@@ -8,8 +7,6 @@ pub mod Product
 pub mod FieldReading
 pub mod Slices
 pub mod RowWords
-pub mod Replaced
-pub mod Filling
 pub mod FieldWords
 pub mod FieldWriting
 pub mod Claims

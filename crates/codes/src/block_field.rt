@@ -2,7 +2,7 @@
 ghost use mathlib.Core.Path.{_≡_};
 ghost use Prim.Native.Nat.{ℕ, _+_, _*_, _<_};
 ghost use lib.ListN.{length, getD};
-ghost use Rattle.polynomials.specs.Bits.{digits, octetBit, zeros, followed, number, tabulate};
+ghost use Rattle.foundation.specs.Bits.{digits, octetBit, zeros, followed, number, tabulate};
 ghost use Rattle.codes.specs.Hamming.{syndrome, withParity};
 ghost use Rattle.codes.specs.Field.{information, product, plain, sent, writtenField, received, columnsGood, infoBit, infoOctets, readField};
 ghost use Rattle.codes.specs.Claims.{FieldComesBack};

@@ -12,7 +12,7 @@ use lib.Seq.{getD-take, take-at, drop-at}
 use Rattle.addresses.proofs.OctetsBack.{three-back, four-back}
 use Rattle.codes.specs.SlotWord.{slotWord, distance}
 use Rattle.codes.specs.Field.{writtenField, readField, Correctable}
-use Rattle.codes.proofs.Tests.{all-eq}
+use Rattle.foundation.proofs.Tests.{all-eq}
 use Rattle.codes.proofs.FieldReading.{corrects-field, field-back}
 use Rattle.bursts.specs.Bursts.{kindOf, known, slotBits, fieldOf, writtenBurst}
 use Rattle.datagrams.specs.Datagrams.{prefix, prefixed, frameOf, namedType, burstOf, labelsOf, readDatagram, labelOctets, writtenDatagram}

@@ -10,10 +10,10 @@ use lib.ListN.{length, getD, take, drop, length-drop}
 use lib.Seq.{take-all}
 use borrow.Author.Tests.{eq-eqb, ne-eqb, eqb-true}
 use Rattle.addresses.specs.Octets.{addressAt, numberAt}
-use Rattle.codes.specs.Order.{firstFailed}
+use Rattle.foundation.specs.Order.{firstFailed}
 use Rattle.codes.specs.SlotWord.{slotNumber}
 use Rattle.codes.specs.declared.block_field.BlockField.{BlockField}
-use Rattle.codes.proofs.Tests.{not-true, every-true, all-eq}
+use Rattle.foundation.proofs.Tests.{not-true, every-true, all-eq}
 use Rattle.bursts.specs.Bursts.{kindOf, known, slotData, burstSlot, burstField, colourOf, typeOf}
 use Rattle.datagrams.specs.Datagrams.{prefix, prefixed, frameOf, namedType, burstOf, datagramNumber, labelsOf, refusedDatagram, readDatagram}
 use Rattle.datagrams.specs.DatagramParts.{Slotted, Kinded}

@@ -11,13 +11,13 @@ use lib.Dec.{lit≤, lit<, ltb}
 use lib.ListN.{length, getD, take, length-drop}
 use lib.Seq.{length-take-le, getD-take, ext-getD}
 use borrow.Author.Tests.{eq-eqb, lt-ltb}
-use Rattle.codes.specs.Order.{firstFailed}
+use Rattle.foundation.specs.Order.{firstFailed}
 use Rattle.codes.specs.SlotWord.{readSlotType, slotNumber}
 use Rattle.codes.specs.Field.{fieldNumber, readField}
 use Rattle.codes.specs.declared.slot_type.SlotType.{SlotType}
 use Rattle.codes.specs.declared.slot_type.SlotType.the-variants.{Data, NoCodeword, TooWide}
 use Rattle.codes.proofs.SlotReading.{reads-near}
-use Rattle.codes.proofs.Tests.{choose, cond-lt, cond-ge, not-true}
+use Rattle.foundation.proofs.Tests.{choose, cond-lt, cond-ge, not-true}
 use Rattle.bursts.specs.Bursts.{kindOf, known, slotBits, fieldOf, partTests, writtenBurst}
 use Rattle.bursts.specs.BurstClaims.{Near}
 use Rattle.datagrams.specs.Datagrams.{prefix, prefixed, frameOf, namedType, burstOf, datagramNumber, readDatagram, writtenDatagram, labelTests, writeNumber, writeDatagram}

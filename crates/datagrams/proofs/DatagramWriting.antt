@@ -8,7 +8,7 @@ use native.Mathlib.Omega.{arith}
 use lib.Dec.{eqb, ltb}
 use lib.ListN.{replicate}
 use borrow.Author.Tests.{ne-eqb, lt-ltb, le-ltb, ltb-true}
-use Rattle.codes.specs.Order.{firstFailed}
+use Rattle.foundation.specs.Order.{firstFailed}
 use Rattle.bursts.specs.Bursts.{kindOf, known, partTests, writtenBurst, writeBurst}
 use Rattle.datagrams.specs.Datagrams.{labelOctets, writtenDatagram, labelTests, writeNumber, writeDatagram}
 use Rattle.datagrams.specs.DatagramParts.{labelsFit}

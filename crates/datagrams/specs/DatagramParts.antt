@@ -6,7 +6,7 @@ use mathlib.Core.List.{List}
 use Prim.Native.Nat.{ℕ, _%_}
 use lib.Dec.{eqb}
 use lib.ListN.{length}
-use Rattle.codes.specs.Order.{firstFailed}
+use Rattle.foundation.specs.Order.{firstFailed}
 use Rattle.codes.specs.declared.slot_type.SlotType.the-variants.{Data}
 use Rattle.bursts.specs.Bursts.{kindOf, known, burstSlot}
 use Rattle.datagrams.specs.Datagrams.{prefixed, frameOf, namedType, burstOf, labelTests}

@@ -7,7 +7,7 @@ use Prim.Native.Nat.{ℕ, _+_, _*_, _/_, _%_, _^_}
 use lib.Dec.{eqb, ltb}
 use lib.ListN.{length, getD, drop, replicate}
 use Rattle.addresses.specs.Octets.{addressAt, threeOctets, fourOctets, numberAt}
-use Rattle.codes.specs.Order.{every, firstFailed}
+use Rattle.foundation.specs.Order.{every, firstFailed}
 use Rattle.codes.specs.SlotWord.{slotNumber}
 use Rattle.bursts.specs.Bursts.{kindOf, known, burstSlot, burstField, colourOf, typeOf, writtenBurst, partTests}
 use Rattle.bursts.specs.declared.burst.Sync.{Sync}

@@ -13,7 +13,7 @@ use Rattle.messages.specs.Messages.{blockSize}
 use Rattle.transactions.specs.Transactions.{isFull, repeats, serialOf, dataOf}
 use Rattle.transactions.specs.Flags.{withFlag}
 use Rattle.transactions.specs.Answers.{Said, refused, opened, repeat, stored, bad, message, response, numberOf, responseSaid}
-use Rattle.codes.proofs.Tests.{either}
+use Rattle.foundation.proofs.Tests.{either}
 use Rattle.receiver_state.specs.Receiver.{held, allHeld}
 use Rattle.receiver.specs.Events.{said, changed, headerNumber, onHeader, putBlock, blockNumber, completed, taken, onBlock, onEnd}
 use Rattle.receiver_state.specs.declared.Receiver.{Receiver}

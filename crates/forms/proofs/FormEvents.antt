@@ -10,12 +10,12 @@ use native.Mathlib.Decide.{ℕ-discrete}
 use lib.Dec.{eqb}
 use lib.ListN.{length, getD, replicate, length-replicate}
 use borrow.Author.Tests.{eq-eqb, ne-eqb, eqb-true}
-use Rattle.codes.specs.Order.{firstFailed}
+use Rattle.foundation.specs.Order.{firstFailed}
 use Rattle.datagrams.specs.Datagrams.{datagramNumber, readDatagram}
 use Rattle.datagrams.specs.declared.Datagram.{Datagram}
 use Rattle.datagrams.proofs.DatagramNumbers.{read-number}
 use Rattle.transactions.specs.Answers.{refused, numberOf}
-use Rattle.codes.proofs.Tests.{either}
+use Rattle.foundation.proofs.Tests.{either}
 use Rattle.receiver_state.specs.declared.Receiver.{Receiver}
 use Rattle.stored.specs.Stored.{storedBlock, saved, afterSave}
 use Rattle.stored.specs.Claims.{Savable}

@@ -10,7 +10,7 @@ use borrow.Author.Tests.{eqb-false}
 use Rattle.addresses.specs.Octets.{addressAt}
 use Rattle.addresses.specs.declared.RadioAddress.{RadioAddress}
 use Rattle.transactions.specs.Answers.{numberOf}
-use Rattle.codes.proofs.Tests.{either}
+use Rattle.foundation.proofs.Tests.{either}
 use Rattle.receiver_state.specs.Receiver.{freshReceiver}
 use Rattle.stored.specs.Stored.{storedBlock, block0, receiverIn, restoreNumber, restored, afterRestore}
 use Rattle.stored.specs.Claims.{Restores}

@@ -12,12 +12,12 @@ use lib.Seq.{length-take-le}
 use borrow.Author.Tests.{eq-eqb}
 use Rattle.addresses.specs.Octets.{addressAt}
 use Rattle.addresses.specs.declared.RadioAddress.{RadioAddress}
-use Rattle.codes.specs.Order.{firstFailed}
+use Rattle.foundation.specs.Order.{firstFailed}
 use Rattle.checks.specs.Checks.{messageGood}
 use Rattle.messages.specs.Messages.{blockSize}
 use Rattle.packets.proofs.Octets.{octets-take, octets-drop}
 use Rattle.transactions.specs.Flags.{flagOctetCount}
-use Rattle.codes.proofs.Tests.{either, never}
+use Rattle.foundation.proofs.Tests.{either, never}
 use Rattle.receiver_state.specs.Receiver.{storeSize, freshReceiver, freshFor, receiverGood}
 use Rattle.receiver_state.specs.declared.Receiver.{Receiver}
 use Rattle.receiver_state.specs.declared.Fresh.{Fresh}

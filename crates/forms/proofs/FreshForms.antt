@@ -9,8 +9,8 @@ use lib.Dec.{ltb}
 use lib.ListN.{length}
 use borrow.Author.Tests.{eq-eqb, ne-eqb, ltb-true}
 use Rattle.addresses.specs.declared.RadioAddress.{RadioAddress}
-use Rattle.codes.specs.Order.{firstFailed}
-use Rattle.codes.proofs.Tests.{either}
+use Rattle.foundation.specs.Order.{firstFailed}
+use Rattle.foundation.proofs.Tests.{either}
 use Rattle.receiver_state.specs.Receiver.{freshReceiver, freshFor}
 use Rattle.receiver_state.specs.declared.Fresh.{Fresh}
 use Rattle.stored.specs.Stored.{storedBlock, saveNumber, afterSave}

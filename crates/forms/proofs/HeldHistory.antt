@@ -9,11 +9,11 @@ use native.Mathlib.Nat.{not-suc-le-zero}
 use native.Mathlib.Decide.{decLt}
 use lib.Dec.{T, eqb, ltb}
 use borrow.Author.Tests.{eq-eqb, ne-eqb, eqb-true, eqb-false, ltb-true, leb-true, not-true}
-use Rattle.codes.specs.Order.{every}
-use Rattle.codes.proofs.Tests.{every-at}
+use Rattle.foundation.specs.Order.{every}
+use Rattle.foundation.proofs.Tests.{every-at}
 use Rattle.transactions.specs.Flags.{flagCount, flagged}
-use Rattle.codes.proofs.Tests.{either, never}
-use Rattle.transactions.proofs.Order.{all-at}
+use Rattle.foundation.proofs.Tests.{either, never}
+use Rattle.foundation.proofs.Order.{all-at}
 use Rattle.transactions.proofs.FlagOctets.{flagged-far}
 use Rattle.receiver_state.specs.Receiver.{blockAt, held, allHeld, noneFrom, receiverGood, transactionNone, transactionGood}
 use Rattle.receiver_state.specs.declared.Receiver.{Receiver}

@@ -8,7 +8,7 @@ use lib.Dec.{eqb}
 use lib.ListN.{length, replicate}
 use Rattle.addresses.specs.Octets.{addressAt}
 use Rattle.addresses.specs.declared.RadioAddress.{RadioAddress}
-use Rattle.codes.specs.Order.{firstFailed}
+use Rattle.foundation.specs.Order.{firstFailed}
 use Rattle.datagrams.specs.Datagrams.{readDatagram}
 use Rattle.transactions.specs.Answers.{numberOf}
 use Rattle.receiver_state.specs.Receiver.{storeSize, freshReceiver, freshFor}

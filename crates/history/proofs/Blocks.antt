@@ -10,7 +10,7 @@ use lib.ListN.{length, take, length-drop}
 use lib.Seq.{take-take}
 use borrow.Author.Tests.{eqb-true, eqb-false, eq-eqb, ne-eqb, ltb-true}
 use Rattle.addresses.specs.declared.RadioAddress.{RadioAddress}
-use Rattle.codes.specs.Order.{firstFailed}
+use Rattle.foundation.specs.Order.{firstFailed}
 use Rattle.checks.specs.Checks.{messageGood}
 use Rattle.packets.specs.Blocks.{blockTests}
 use Rattle.messages.specs.Messages.{blockSize, checkSize}
@@ -18,8 +18,8 @@ use Rattle.transactions.specs.Transactions.{serialOf, dataOf, takenTests, taken
 use Rattle.transactions.specs.Flags.{flagged, withFlag}
 use Rattle.transactions.specs.Answers.{message}
 use Rattle.transactions.specs.declared.header.Transaction.{Transaction}
-use Rattle.codes.proofs.Tests.{either, never}
-use Rattle.transactions.proofs.Order.{all-nil, all-cons, all-at, passed}
+use Rattle.foundation.proofs.Tests.{either, never}
+use Rattle.foundation.proofs.Order.{all-nil, all-cons, all-at, passed}
 use Rattle.transactions.proofs.FlagOctets.{flagged-with, octets-with, length-with}
 use Rattle.receiver_state.specs.Receiver.{blockAt, storeSize, noFlags, held, allHeld, transactionGood}
 use Rattle.receiver.specs.Events.{said, answered, changed, putBlock, blockNumber, completed, taken, onBlock}

@@ -7,9 +7,9 @@ use Prim.Native.Nat.{ℕ, zero, suc, _+_, _*_, _-_, _/_, _%_, _≤_, _<_}
 use native.Mathlib.Omega.{arith}
 use lib.ListN.{length, take, replicate}
 use borrow.Author.Tests.{eq-eqb, le-leb, lt-ltb}
-use Rattle.codes.specs.Order.{firstFailed}
+use Rattle.foundation.specs.Order.{firstFailed, all}
 use Rattle.checks.specs.Checks.{blockGood}
-use Rattle.codes.proofs.Tests.{every-true}
+use Rattle.foundation.proofs.Tests.{every-true}
 use Rattle.packets.specs.Headers.{headerTests, headerNumber, writtenHeader, widthNumber, writeHeader}
 use Rattle.packets.specs.Blocks.{blockTests, writtenBlock}
 use Rattle.messages.specs.Messages.{blockSize, checkSize, mostBlocks, mostOctets, blocksOf, padOf, laidOut, blockData, confirmedFsn, attemptHeader, fullHeader}
@@ -23,10 +23,11 @@ use Rattle.packets.proofs.BlockClaims.{claims as blocks}
 use Rattle.messages.proofs.MessageClaims.{messages}
 use Rattle.packets.proofs.HeaderBack.{written-format, written-last, written-common, written-octets, reads-back as header-back}
 use Rattle.packets.proofs.BlockBack.{written-length, written-good, reads-back as block-back}
-use Rattle.transactions.specs.Transactions.{transactionOf, isFull, heardTests, heardNumber, repeats, serialOf, dataOf, takenTests, takenNumber, all}
+use Rattle.transactions.specs.Transactions.{transactionOf, isFull, heardTests, heardNumber, repeats, serialOf, dataOf, takenTests, takenNumber}
 use Rattle.transactions.specs.Answers.{Said, opened, stored, message}
 use Rattle.transactions.specs.declared.header.Transaction.{Transaction}
-use Rattle.transactions.proofs.Order.{header-run, every-stops}
+use Rattle.transactions.proofs.Order.{header-run}
+use Rattle.foundation.proofs.Order.{every-stops}
 use Rattle.history.specs.History.{Kept, History, nothing, holds, heldData, opens, afterHeader, keeping, whole, messageOf, afterBlock, after, headerSaid, keptNumber, handedOn, blockSaid, saidTo, saidFrom}
 use Rattle.history.specs.Claims.{Octets, blockEvents, sending}
 use Rattle.history.proofs.Once.{taken-valid}

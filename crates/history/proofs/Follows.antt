@@ -9,15 +9,15 @@ use lib.Dec.{eqb, ltb}
 use lib.ListN.{length, getD, take, replicate}
 use borrow.Author.Tests.{eqb-true, lt-ltb, le-leb}
 use Rattle.addresses.specs.declared.RadioAddress.{RadioAddress}
-use Rattle.codes.specs.Order.{every}
-use Rattle.codes.proofs.Tests.{every-true}
+use Rattle.foundation.specs.Order.{every}
+use Rattle.foundation.proofs.Tests.{every-true}
 use Rattle.messages.specs.Messages.{blockSize}
 use Rattle.messages.proofs.MessageLayout.{joined-parts}
 use Rattle.packets.proofs.Octets.{octets-zeros}
 use Rattle.transactions.specs.Flags.{flagOctetCount, flagCount, flagged}
 use Rattle.transactions.specs.declared.header.Transaction.{Transaction}
-use Rattle.codes.proofs.Tests.{either, never}
-use Rattle.transactions.proofs.Order.{all-nil, all-cons}
+use Rattle.foundation.proofs.Tests.{either, never}
+use Rattle.foundation.proofs.Order.{all-nil, all-cons}
 use Rattle.transactions.proofs.FlagOctets.{flagged-none}
 use Rattle.receiver_state.specs.Receiver.{blockAt, storeSize, noFlags, noTransaction, freshReceiver, freshFor, held, allHeld, noneFrom, receiverGood}
 use Rattle.stored.specs.Claims.{Savable}

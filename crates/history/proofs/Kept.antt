@@ -6,10 +6,10 @@ use mathlib.Core.List.{List, [], _∷_, _++_}
 use Prim.Native.Nat.{ℕ, zero, suc, _<_}
 use native.Mathlib.Omega.{arith}
 use lib.Dec.{T, eqb}
-use Rattle.codes.proofs.Tests.{every-at}
+use Rattle.foundation.proofs.Tests.{every-at}
 use Rattle.messages.specs.Messages.{joined}
 use Rattle.transactions.specs.declared.header.Transaction.{Transaction}
-use Rattle.codes.proofs.Tests.{either, never}
+use Rattle.foundation.proofs.Tests.{either, never}
 use Rattle.history.specs.History.{Kept, holds, heldData, whole}
 
 either-order : (a b c : Bool) → cond a true (cond b true c) ≡ cond b true (cond a true c)

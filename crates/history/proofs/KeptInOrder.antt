@@ -7,7 +7,7 @@ use Prim.Native.Nat.{ℕ, zero, suc, _≤_, _<_}
 use native.Mathlib.Nat.{not-suc-le-zero}
 use native.Mathlib.Omega.{arith}
 use borrow.Author.Tests.{eq-eqb, ne-eqb}
-use Rattle.codes.proofs.Tests.{extend}
+use Rattle.foundation.proofs.Tests.{extend}
 use Rattle.messages.specs.Messages.{blockData}
 use Rattle.history.specs.History.{Kept, holds, heldData}
 use Rattle.history.proofs.Kept.{holds-more, first-stays, new-data}

@@ -10,7 +10,7 @@ use lib.Dec.{eqb, leb}
 use lib.ListN.{length, take}
 use borrow.Author.Tests.{eq-eqb, ne-eqb, leb-true}
 use Rattle.addresses.specs.declared.RadioAddress.{RadioAddress}
-use Rattle.codes.specs.Order.{firstFailed}
+use Rattle.foundation.specs.Order.{firstFailed}
 use Rattle.checks.specs.Checks.{messageGood}
 use Rattle.packets.specs.Headers.{writtenHeader, widthNumber, writeHeader}
 use Rattle.packets.specs.Blocks.{writtenBlock}
@@ -25,7 +25,7 @@ use Rattle.messages.proofs.MessageClaims.{messages}
 use Rattle.transactions.specs.Transactions.{serialOf}
 use Rattle.transactions.specs.Answers.{message}
 use Rattle.transactions.specs.declared.header.Transaction.{Transaction}
-use Rattle.codes.proofs.Tests.{either}
+use Rattle.foundation.proofs.Tests.{either}
 use Rattle.receiver_state.specs.Receiver.{storeSize, held, allHeld, freshReceiver, freshFor}
 use Rattle.receiver.specs.Events.{Left, said, blockNumber, completed, taken, onHeader, onBlock}
 use Rattle.receiver_state.specs.declared.Receiver.{Receiver}

@@ -10,11 +10,12 @@ use borrow.Author.Tests.{eqb-true}
 use Rattle.addresses.specs.declared.RadioAddress.{RadioAddress}
 use Rattle.checks.specs.Checks.{messageGood}
 use Rattle.messages.specs.declared.response.ResponseOctets.{ResponseOctets}
-use Rattle.transactions.specs.Transactions.{all, transactionOf, isFull, heardNumber, repeats, serialOf}
+use Rattle.transactions.specs.Transactions.{transactionOf, isFull, heardNumber, repeats, serialOf}
+use Rattle.foundation.specs.Order.{all}
 use Rattle.transactions.specs.Answers.{Said, refused, opened, repeat, stored, bad, message, response, responseTo, responseSaid}
 use Rattle.transactions.specs.declared.header.Transaction.{Transaction}
-use Rattle.codes.proofs.Tests.{never}
-use Rattle.transactions.proofs.Order.{all-at}
+use Rattle.foundation.proofs.Tests.{never}
+use Rattle.foundation.proofs.Order.{all-at}
 use Rattle.history.specs.History.{Event, header, block, ended, Kept, History, nothing, holds, heldData, opens, afterHeader, valid, keeping, whole, messageOf, afterBlock, after, headerSaid, keptNumber, handedOn, blockSaid, saidTo, saidFrom}
 use Rattle.history.specs.Claims.{Once}
 use Rattle.history.proofs.Blocks.{valid-of}

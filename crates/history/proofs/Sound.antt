@@ -8,14 +8,14 @@ use native.Mathlib.Omega.{arith}
 use lib.Dec.{eqb, leb}
 use borrow.Author.Tests.{eqb-true, ne-eqb, ltb-true, leb-true, lt-ltb}
 use Rattle.addresses.specs.declared.RadioAddress.{RadioAddress}
-use Rattle.codes.specs.Order.{firstFailed}
+use Rattle.foundation.specs.Order.{firstFailed, all}
 use Rattle.checks.specs.Checks.{messageGood}
 use Rattle.packets.specs.Headers.{headerTests, commonOf}
 use Rattle.messages.specs.Messages.{blockSize, checkSize, mostBlocks}
-use Rattle.transactions.specs.Transactions.{all, transactionOf, isFull, heardTests, heardNumber, serialOf}
+use Rattle.transactions.specs.Transactions.{transactionOf, isFull, heardTests, heardNumber, serialOf}
 use Rattle.transactions.specs.declared.header.Transaction.{Transaction}
-use Rattle.codes.proofs.Tests.{either, never}
-use Rattle.transactions.proofs.Order.{all-nil, all-cons, all-at, passed}
+use Rattle.foundation.proofs.Tests.{either, never}
+use Rattle.foundation.proofs.Order.{all-nil, all-cons, all-at, passed}
 use Rattle.receiver_state.specs.Receiver.{transactionGood, transactionNone}
 use Rattle.history.specs.History.{Kept, History, nothing, holds, opens, valid, keeping, whole, messageOf, afterHeader, afterBlock}
 use Rattle.history.specs.Claims.{Octets}

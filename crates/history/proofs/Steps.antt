@@ -5,9 +5,10 @@ use mathlib.Core.List.{List, []}
 use Prim.Native.Nat.{ℕ}
 use lib.Dec.{eqb}
 use Rattle.addresses.specs.declared.RadioAddress.{RadioAddress}
-use Rattle.transactions.specs.Transactions.{all, transactionOf, isFull, heardNumber, repeats}
+use Rattle.transactions.specs.Transactions.{transactionOf, isFull, heardNumber, repeats}
+use Rattle.foundation.specs.Order.{all}
 use Rattle.transactions.specs.Answers.{Said}
-use Rattle.codes.proofs.Tests.{either}
+use Rattle.foundation.proofs.Tests.{either}
 use Rattle.receiver.specs.Events.{said, headerNumber, openedBy, onHeader, onEnd}
 use Rattle.history.specs.History.{header, ended, History, opens, afterHeader, headerSaid, after, saidTo}
 use Rattle.history.specs.Run.{State, afterEvent, answerTo}

@@ -6,10 +6,10 @@ use Prim.Native.Nat.{ℕ, _*_, _-_}
 use lib.Dec.{eqb, ltb}
 use lib.ListN.{length, take}
 use Rattle.addresses.specs.declared.RadioAddress.{RadioAddress}
-use Rattle.codes.specs.Order.{every}
+use Rattle.foundation.specs.Order.{every, all}
 use Rattle.checks.specs.Checks.{blockGood, messageGood}
 use Rattle.messages.specs.Messages.{blockSize, checkSize, joined}
-use Rattle.transactions.specs.Transactions.{all, transactionOf, isFull, heardNumber, repeats, serialOf, dataOf, takenNumber}
+use Rattle.transactions.specs.Transactions.{transactionOf, isFull, heardNumber, repeats, serialOf, dataOf, takenNumber}
 use Rattle.transactions.specs.Answers.{Said, refused, opened, repeat, stored, bad, message, responseTo, responseSaid}
 use Rattle.transactions.specs.declared.header.Transaction.{Transaction}
 

@@ -6,7 +6,7 @@ use mathlib.Core.Logic.{_≢_}
 use Prim.Native.Nat.{ℕ}
 use lib.Dec.{eqb}
 use lib.ListN.{length, take}
-use Rattle.codes.specs.Order.{firstFailed}
+use Rattle.foundation.specs.Order.{firstFailed}
 use Rattle.messages.specs.Messages.{fullHeader}
 use Rattle.messages.specs.declared.message.Delivery.{Delivery}
 use Rattle.receiver_state.specs.Receiver.{storeSize}

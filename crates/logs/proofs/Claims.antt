@@ -10,9 +10,9 @@ use lib.ListN.{length, getD, take, drop, length-drop}
 use borrow.Author.Tests.{eqb-true}
 use Rattle.addresses.specs.Octets.{addressAt}
 use Rattle.packets.proofs.Octets.{octets-take, octets-drop}
-use Rattle.transactions.specs.Transactions.{all}
-use Rattle.codes.proofs.Tests.{either}
-use Rattle.transactions.proofs.Order.{all-at}
+use Rattle.foundation.specs.Order.{all}
+use Rattle.foundation.proofs.Tests.{either}
+use Rattle.foundation.proofs.Order.{all-at}
 use Rattle.receiver_state.specs.Receiver.{storeSize}
 use Rattle.history.specs.History.{header, block, ended}
 use Rattle.history.specs.Run.{event, restart}

@@ -12,8 +12,8 @@ use lib.Seq.{getD-append-add, take-all, take-length}
 use borrow.Author.Tests.{eq-eqb, ne-eqb, ltb-true, ltb-false}
 use Rattle.messages.specs.declared.response.ResponseOctets.{ResponseOctets}
 use Rattle.transactions.specs.Answers.{refused, response, responseSaid}
-use Rattle.codes.proofs.Filling.{getD-padded}
-use Rattle.codes.proofs.Tests.{either}
+use Rattle.foundation.proofs.Filling.{getD-padded}
+use Rattle.foundation.proofs.Tests.{either}
 use Rattle.receiver.specs.Events.{said}
 use Rattle.receiver.specs.declared.event.Answer.{Answer}
 use Rattle.stored.specs.Stored.{storedBlock}

@@ -8,10 +8,9 @@ use Prim.Native.Nat.{ℕ, _+_, _*_, _^_}
 use lib.Dec.{eqb}
 use lib.ListN.{length, getD, drop}
 use borrow.Author.Tests.{eq-eqb, ne-eqb, eqb-true, ltb-true}
-use Rattle.codes.specs.Order.{firstFailed}
-use Rattle.transactions.specs.Transactions.{all}
-use Rattle.codes.proofs.Tests.{either}
-use Rattle.transactions.proofs.Order.{all-nil, all-cons, all-at, all-fails}
+use Rattle.foundation.specs.Order.{firstFailed, all}
+use Rattle.foundation.proofs.Tests.{either}
+use Rattle.foundation.proofs.Order.{all-nil, all-cons, all-at, all-fails}
 use Rattle.receiver_state.specs.Receiver.{storeSize, freshReceiver, freshFor, receiverGood}
 use Rattle.receiver_state.specs.declared.Receiver.{Receiver}
 use Rattle.stored.specs.Stored.{storedBlock, saved, saveNumber, afterSave, restored, afterRestore}

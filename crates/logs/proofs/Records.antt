@@ -11,8 +11,8 @@ use lib.Dec.{eqb, ltb}
 use lib.ListN.{length, getD, take, drop, length-drop, drop-of-length-le}
 use lib.Seq.{getD-drop, drop-drop}
 use borrow.Author.Tests.{eq-eqb, ne-eqb, lt-ltb, le-ltb, ltb-true, ltb-false}
-use Rattle.transactions.specs.Transactions.{all}
-use Rattle.codes.proofs.Tests.{either}
+use Rattle.foundation.specs.Order.{all}
+use Rattle.foundation.proofs.Tests.{either}
 use Rattle.logs.specs.Log.{Record, none, recordOf, recordEnd, recordsFrom, recordsOf}
 use Rattle.logs.specs.Parts.{Cuts}
 use Rattle.logs.specs.declared.replaying.Cut.{Cut}

@@ -8,9 +8,8 @@ use lib.Dec.{eqb, leb, ltb}
 use lib.ListN.{length, getD, take, drop, replicate}
 use Rattle.addresses.specs.Octets.{addressAt}
 use Rattle.addresses.specs.declared.RadioAddress.{RadioAddress}
-use Rattle.codes.specs.Order.{firstFailed}
+use Rattle.foundation.specs.Order.{firstFailed, all}
 use Rattle.messages.specs.Messages.{blockSize}
-use Rattle.transactions.specs.Transactions.{all}
 use Rattle.transactions.specs.Flags.{flagOctets}
 use Rattle.transactions.specs.Answers.{Said, refused, opened, repeat, stored, bad, message, response}
 use Rattle.receiver_state.specs.Receiver.{storeSize, receiverGood}

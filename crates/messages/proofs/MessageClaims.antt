@@ -6,7 +6,7 @@ use Prim.Native.Nat.{ℕ, _≤_, _<_}
 use native.Mathlib.Omega.{arith}
 use borrow.Author.Tests.{le-leb, lt-leb, lt-ltb, le-ltb, ne-eqb}
 use lib.ListN.{length, replicate}
-use Rattle.codes.specs.Order.{firstFailed}
+use Rattle.foundation.specs.Order.{firstFailed}
 use Rattle.packets.specs.Blocks.{writtenBlock}
 use Rattle.messages.specs.Messages.{mostOctets, blocksOf, padOf, sizeOf, blockData, blockPartTests, writeMessageBlock, refusedHeader, partialHeader}
 use Rattle.messages.specs.declared.message.Delivery.{Delivery}

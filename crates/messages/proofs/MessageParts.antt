@@ -8,10 +8,10 @@ use native.Mathlib.Omega.{arith}
 use lib.ListN.{length, take, drop, getD, replicate, length-append, length-drop, length-replicate, List·getD-append, List·getD-eq-default}
 use lib.Seq.{length-take-le, take-append-le, drop-append-le, getD-append-add, getD-take, getD-drop, ext-getD}
 use borrow.Author.Tests.{eq-eqb, ne-eqb, lt-ltb, le-ltb, le-leb, lt-leb}
-use Rattle.polynomials.proofs.Runs.{tabulated}
-use Rattle.codes.specs.Order.{firstFailed}
+use Rattle.foundation.proofs.Runs.{tabulated}
+use Rattle.foundation.specs.Order.{firstFailed}
 use Rattle.checks.specs.Checks.{messageCheck, lowestFirst}
-use Rattle.codes.proofs.Filling.{Filled, filled-done, getD-padded}
+use Rattle.foundation.proofs.Filling.{Filled, filled-done, getD-padded}
 use Rattle.packets.specs.Headers.{writeHeader}
 use Rattle.packets.specs.Blocks.{writeBlock}
 use Rattle.messages.specs.Messages.{blockSize, checkSize, mostOctets, blocksOf, padOf, sizeOf, padded, laidOut, blockData, blockPartTests, writeMessageBlock, attemptHeader, refusedHeader, fullHeader, partialHeader}

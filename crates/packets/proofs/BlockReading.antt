@@ -9,10 +9,10 @@ use borrow.Author.Tests.{eq-eqb, ne-eqb}
 use lib.Dec.{eqb}
 use lib.ListN.{length, getD, drop, length-drop}
 use lib.Seq.{getD-drop}
-use Rattle.polynomials.proofs.Runs.{tabulated}
-use Rattle.codes.specs.Order.{firstFailed}
+use Rattle.foundation.proofs.Runs.{tabulated}
+use Rattle.foundation.specs.Order.{firstFailed}
 use Rattle.checks.specs.Checks.{blockGood}
-use Rattle.codes.proofs.Filling.{Filled, filled-done}
+use Rattle.foundation.proofs.Filling.{Filled, filled-done}
 use Rattle.packets.specs.Blocks.{blockTests, blockNumber, refusedBlock, readBlock}
 
 -- the number of a block of 12 octets, by the test that is left

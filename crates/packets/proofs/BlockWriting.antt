@@ -7,10 +7,10 @@ use native.Mathlib.Omega.{arith}
 use borrow.Author.Tests.{eq-eqb, ne-eqb, lt-ltb, le-ltb}
 use lib.ListN.{length, getD, set, replicate}
 use lib.Seq.{getD-append-add}
-use Rattle.polynomials.proofs.Runs.{tabulated}
-use Rattle.codes.specs.Order.{firstFailed}
+use Rattle.foundation.proofs.Runs.{tabulated}
+use Rattle.foundation.specs.Order.{firstFailed}
 use Rattle.checks.specs.Checks.{blockCheck}
-use Rattle.codes.proofs.Filling.{Filled, filled-start, filled-more, filled-done}
+use Rattle.foundation.proofs.Filling.{Filled, filled-start, filled-more, filled-done}
 use Rattle.packets.specs.Blocks.{writtenBlock, partTests, writeBlock}
 
 module _ (serial : ℕ) (os : List ℕ) where

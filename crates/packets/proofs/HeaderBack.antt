@@ -7,7 +7,7 @@ use Prim.Native.Nat.{ℕ, _+_, _*_, _/_, _%_, _<_}
 use native.Mathlib.Omega.{arith}
 use lib.Dec.{lit<}
 use lib.ListN.{length, getD}
-use Rattle.codes.specs.Order.{firstFailed}
+use Rattle.foundation.specs.Order.{firstFailed}
 use Rattle.checks.specs.Checks.{headerGood}
 use Rattle.checks.proofs.HeaderChecks.{headerCheck-lt, header-carried}
 use Rattle.packets.specs.Headers.{headerMask, part, commonOf, formatOf, headerOf, readHeader, knownFormat, headerBody, withCheck, writtenHeader, commonWidths, widths, widthNumber, writeHeader}

@@ -10,7 +10,7 @@ use native.Mathlib.Decide.{ℕ-discrete, decLt}
 use lib.Dec.{eqb, ltb}
 use lib.ListN.{length, getD}
 use Rattle.addresses.specs.declared.RadioAddress.{RadioAddress}
-use Rattle.codes.specs.Order.{firstFailed}
+use Rattle.foundation.specs.Order.{firstFailed}
 use Rattle.checks.specs.Checks.{headerGood}
 use Rattle.packets.specs.Headers.{headerMask, part, commonOf, formatOf, headerOf, knownFormat, headerTests, readHeader, headerNumber}
 use Rattle.packets.specs.declared.header.Common.{Common}

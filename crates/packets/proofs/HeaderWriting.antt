@@ -10,7 +10,7 @@ use lib.Dec.{ltb}
 use lib.ListN.{getD, replicate}
 use Rattle.addresses.specs.Octets.{threeOctets}
 use Rattle.checks.specs.Checks.{headerCheck}
-use Rattle.codes.specs.Order.{firstFailed}
+use Rattle.foundation.specs.Order.{firstFailed}
 use Rattle.packets.specs.Headers.{headerMask, headerBody, withCheck, writtenHeader, commonWidths, headerWidths, widths, widthNumber, writeHeader}
 use Rattle.packets.specs.Parts.{formatNumber, commonFields, lastOctet, lastWidths, CommonWithin, LastWithin}
 use Rattle.packets.specs.declared.header.Common.{Common}

@@ -7,7 +7,7 @@ use Prim.Native.Nat.{ℕ, zero, suc}
 use native.Mathlib.Omega.{arith}
 use lib.Dec.{eqb}
 use lib.ListN.{getD}
-use Rattle.codes.specs.Order.{firstFailed}
+use Rattle.foundation.specs.Order.{firstFailed}
 use Rattle.packets.specs.Headers.{widths}
 
 -- every test is passed

@@ -6,7 +6,7 @@ use mathlib.Core.List.{List}
 use mathlib.Core.Logic.{_↔_, _≢_}
 use Prim.Native.Nat.{ℕ, _/_, _%_, _≤_}
 use lib.ListN.{length, getD, replicate}
-use Rattle.codes.specs.Order.{firstFailed}
+use Rattle.foundation.specs.Order.{firstFailed}
 use Rattle.checks.specs.Checks.{headerGood}
 use Rattle.packets.specs.Headers.{headerMask, formatOf, headerOf, headerTests, readHeader, headerNumber, writtenHeader, widthNumber, writeHeader}
 use Rattle.packets.specs.declared.header.Header.{Header}

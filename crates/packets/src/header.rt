@@ -3,7 +3,7 @@ ghost use mathlib.Core.Path.{_≡_};
 ghost use Prim.Native.Nat.{_<_};
 ghost use lib.Dec.{eqb};
 ghost use lib.ListN.{length};
-ghost use Rattle.codes.specs.Order.{firstFailed};
+ghost use Rattle.foundation.specs.Order.{firstFailed};
 ghost use Rattle.packets.specs.Headers.{commonOf, headerOf, knownFormat, readHeader, headerBody, withCheck, commonWidths, widths, writeHeader, headerFor};
 ghost use Rattle.packets.specs.HeaderClaims.{HeaderReadsBack};
 ghost use Rattle.packets.specs.Parts.{formatNumber, commonFields, lastOctet, lastWidths, CommonWithin, LastWithin};

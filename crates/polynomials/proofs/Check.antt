@@ -8,10 +8,10 @@ use native.Mathlib.Omega.{arith}
 use native.Mathlib.Numerals.{add-one}
 use lib.Pow.{pow-pos, pow-add, shl-lt}
 use lib.Bits.{bitXor, xor-self, xor-zero-r}
-use Rattle.polynomials.specs.Bits.{Bits, digits, zeros, followed, number}
+use Rattle.foundation.specs.Bits.{Bits, digits, zeros, followed, number}
 use Rattle.polynomials.specs.Remainder.{reduce, divide, remainder, check, coded}
-use Rattle.polynomials.proofs.Xor.{xor-shl}
-use Rattle.polynomials.proofs.Runs.{zeros-bits, digits-bits, followed-bits, followed-first, followed-rest, number-from, number-lt, number-one, number-whole}
+use Rattle.foundation.proofs.Xor.{xor-shl}
+use Rattle.foundation.proofs.Runs.{zeros-bits, digits-bits, followed-bits, followed-first, followed-rest, number-from, number-lt, number-one, number-whole}
 use Rattle.polynomials.proofs.Division.{divide-append, divide-ext, divide-followed, divide-lt, divide-split, divide-xor, divide-zero, reduce-scale, remainder-short, times-small}
 
 module _ (n g : ℕ) where

@@ -7,10 +7,10 @@ use native.Mathlib.Nat.{zero-mul, one-mul, zero-div, zero-add, add-zero, add-suc
 use native.Mathlib.Omega.{arith}
 use lib.Pow.{pow-pos, pow-mono, shl-shr, shr-shr}
 use lib.Bits.{bitXor, xor-shr, xor-zero-r, xor-lt, xor-shifted}
-use Rattle.polynomials.specs.Bits.{Bits, bit, zeros, followed, number}
+use Rattle.foundation.specs.Bits.{Bits, bit, zeros, followed, number}
 use Rattle.polynomials.specs.Remainder.{reduce, divide, remainder}
-use Rattle.polynomials.proofs.Xor.{bit-ind, bit-xor, scale-xor, xor-swap, xor-shl}
-use Rattle.polynomials.proofs.Runs.{followed-first, followed-behind, number-lt}
+use Rattle.foundation.proofs.Xor.{bit-ind, bit-xor, scale-xor, xor-swap, xor-shl}
+use Rattle.foundation.proofs.Runs.{followed-first, followed-behind, number-lt}
 
 module _ (n g : ℕ) where
   pub reduce-xor : (a b : ℕ) → reduce n g (bitXor a b) ≡ bitXor (reduce n g a) (reduce n g b)

@@ -1,5 +1,3 @@
-pub mod Xor
-pub mod Runs
 pub mod Division
 pub mod Check
 pub mod Linear

@@ -9,7 +9,7 @@ use native.Mathlib.Decide.{decLt}
 use lib.Arith.{lt-one}
 use lib.Dec.{T, eqb, eqb→eq}
 use lib.Bits.{bitXor, xor-shr, xor-mod, xor-self, xor-shifted}
-use Rattle.polynomials.proofs.Xor.{xor-swap, xor-shl}
+use Rattle.foundation.proofs.Xor.{xor-swap, xor-shl}
 
 abbrev pub Linear : (ℕ → ℕ) → Type 0
 Linear f = (a b : ℕ) → f (bitXor a b) ≡ bitXor (f a) (f b)

@@ -8,10 +8,10 @@ use native.Mathlib.Omega.{arith}
 use native.Mathlib.Decide.{decLt}
 use lib.Pow.{shr-shr}
 use lib.Bits.{bitXor, xor-shifted}
-use Rattle.polynomials.specs.Bits.{Bits, bit, digits, zeros, followed}
+use Rattle.foundation.specs.Bits.{Bits, bit, digits, zeros, followed}
 use Rattle.polynomials.specs.Remainder.{reduce, divide, remainder, check, coded}
-use Rattle.polynomials.proofs.Xor.{bit-scale, bit-xor, bit-zero, odd-ind}
-use Rattle.polynomials.proofs.Runs.{zeros-bits, followed-bits, followed-first, followed-rest}
+use Rattle.foundation.proofs.Xor.{bit-scale, bit-xor, bit-zero, odd-ind}
+use Rattle.foundation.proofs.Runs.{zeros-bits, followed-bits, followed-first, followed-rest}
 use Rattle.polynomials.proofs.Division.{divide-ext, divide-zero, remainder-xor}
 
 -- s x + b, bit by bit

@@ -7,9 +7,9 @@ use native.Mathlib.Nat.{one-mul, zero-add}
 use native.Mathlib.Omega.{arith}
 use lib.Bits.{bitXor, xor-block, xor-zero-r}
 use lib.ListN.{getD}
-use Rattle.polynomials.specs.Bits.{bit, zeros, octetBit}
+use Rattle.foundation.specs.Bits.{bit, zeros, octetBit}
 use Rattle.polynomials.specs.Remainder.{reduce, divide, check}
-use Rattle.polynomials.proofs.Runs.{octet-at, octetBit-bits}
+use Rattle.foundation.proofs.Runs.{octet-at, octetBit-bits}
 use Rattle.polynomials.proofs.Division.{reduce-small}
 use Rattle.polynomials.proofs.Check.{check-more}
 

@@ -3,7 +3,7 @@
 use mathlib.Core.Path.{_≡_}
 use Prim.Native.Nat.{ℕ, _+_, _*_, _-_, _/_, _^_, _≤_}
 use lib.Bits.{bitXor}
-use Rattle.polynomials.specs.Bits.{Bits, zeros, followed, number}
+use Rattle.foundation.specs.Bits.{Bits, zeros, followed, number}
 use Rattle.polynomials.specs.Remainder.{divide, remainder, check, coded}
 
 pub record RemainderClaims (n g : ℕ) : Type 0 where

@@ -4,7 +4,7 @@
 use mathlib.Core.List.{List, [], _∷_}
 use Prim.Native.Nat.{ℕ, zero, suc, _+_, _*_, _^_}
 use lib.Bits.{bitXor}
-use Rattle.polynomials.specs.Bits.{bit, digits, zeros, followed}
+use Rattle.foundation.specs.Bits.{bit, digits, zeros, followed}
 
 -- the polynomial with these powers of x, each once
 abbrev pub powers : List ℕ → ℕ

@@ -4,7 +4,7 @@ ghost use mathlib.Core.Path.{_≡_};
 ghost use Prim.Native.Nat.{_+_, _*_, _^_};
 ghost use lib.Bits.{bitXor};
 ghost use lib.ListN.{length};
-ghost use Rattle.polynomials.specs.Bits.{zeros, octetBit};
+ghost use Rattle.foundation.specs.Bits.{zeros, octetBit};
 ghost use Rattle.polynomials.specs.Remainder.{divide, check};
 
 // The register r times x. The generator is x^32 + g.

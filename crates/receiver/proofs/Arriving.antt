@@ -17,7 +17,7 @@ use Rattle.transactions.specs.Transactions.{transactionOf, isFull, heardNumber,
 use Rattle.transactions.specs.Answers.{noResponse, responseTo}
 use Rattle.transactions.specs.declared.header.Transaction.{Transaction}
 use Rattle.transactions.specs.declared.header.Heard.the-variants as heard
-use Rattle.codes.proofs.Tests.{either}
+use Rattle.foundation.proofs.Tests.{either}
 use Rattle.receiver_state.specs.Receiver.{storeSize, noFlags, receiverGood}
 use Rattle.receiver.specs.Events.{Left, answered, headerNumber, openedBy, onHeader, onBlock, onEnd, arrivedNumber, onDatagram}
 use Rattle.receiver.specs.Claims.{Arrives}

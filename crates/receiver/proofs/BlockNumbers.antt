@@ -9,12 +9,13 @@ use native.Mathlib.Omega.{arith}
 use lib.Dec.{eqb}
 use lib.ListN.{length}
 use borrow.Author.Tests.{eqb-true, eqb-false, eq-eqb, ne-eqb, ltb-true, lt-ltb, le-ltb}
-use Rattle.codes.specs.Order.{firstFailed}
+use Rattle.foundation.specs.Order.{firstFailed}
 use Rattle.packets.specs.Blocks.{blockTests, blockNumber as readNumber, refusedBlock, readBlock}
 use Rattle.packets.specs.declared.block.Block.{Block}
 use Rattle.transactions.specs.Transactions.{serialOf, dataOf, sameData, takenTests, takenNumber}
-use Rattle.codes.proofs.Tests.{either}
-use Rattle.transactions.proofs.Order.{all-at, passed, block-run, run-fails}
+use Rattle.foundation.proofs.Tests.{either}
+use Rattle.transactions.proofs.Order.{block-run}
+use Rattle.foundation.proofs.Order.{all-at, passed, run-fails}
 use Rattle.receiver_state.specs.declared.Receiver.{Receiver}
 use Rattle.receiver_state.specs.Receiver.{blockAt, storeSize, held, transactionGood, receiverGood}
 use Rattle.receiver.specs.Events.{blockNumber}

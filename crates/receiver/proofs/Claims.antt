@@ -15,7 +15,7 @@ use Rattle.datagrams.specs.Datagrams.{namedType, datagramNumber, readDatagram}
 use Rattle.datagrams.proofs.DatagramClaims.{datagrams}
 use Rattle.transactions.specs.Transactions.{isFull, repeats, serialOf, dataOf}
 use Rattle.transactions.specs.Flags.{withFlag}
-use Rattle.codes.proofs.Tests.{either, never}
+use Rattle.foundation.proofs.Tests.{either, never}
 use Rattle.receiver_state.specs.declared.Receiver.{Receiver}
 use Rattle.receiver.specs.declared.event.Answer.{Answer}
 use Rattle.receiver.specs.declared.event.Answer.the-variants.{Refused, Opened, Repeat, Stored, Bad, Message}

@@ -7,12 +7,12 @@ use Prim.Native.Nat.{ℕ, _+_, _*_, _-_, _≤_}
 use native.Mathlib.Omega.{arith}
 use lib.ListN.{take}
 use borrow.Author.Tests.{leb-true}
-use Rattle.codes.specs.Order.{every}
+use Rattle.foundation.specs.Order.{every}
 use Rattle.checks.specs.Checks.{messageGood}
 use Rattle.messages.specs.Messages.{blockSize, checkSize}
 use Rattle.transactions.specs.Flags.{flagged}
 use Rattle.transactions.specs.declared.header.Transaction.{Transaction}
-use Rattle.transactions.proofs.Order.{all-at}
+use Rattle.foundation.proofs.Order.{all-at}
 use Rattle.receiver_state.specs.declared.Receiver.{Receiver}
 use Rattle.receiver.specs.declared.event.Answer.the-variants.{Stored, Bad, Message}
 use Rattle.receiver_state.specs.Receiver.{noFlags, allHeld, transactionGood}

@@ -10,13 +10,12 @@ use lib.Dec.{eqb, leb, ltb}
 use lib.ListN.{getD}
 use borrow.Author.Tests.{eq-eqb, ne-eqb, lt-ltb, le-ltb, le-leb}
 use Rattle.addresses.specs.declared.RadioAddress.{RadioAddress}
-use Rattle.codes.specs.Order.{every}
-use Rattle.codes.proofs.Tests.{last}
+use Rattle.foundation.specs.Order.{every, all}
+use Rattle.foundation.proofs.Tests.{last}
 use Rattle.messages.specs.Messages.{blockSize, checkSize, mostBlocks}
 use Rattle.transactions.specs.Flags.{flagCount, flagged}
-use Rattle.transactions.specs.Transactions.{all}
 use Rattle.transactions.specs.declared.header.Transaction.{Transaction}
-use Rattle.transactions.proofs.Order.{all-fails}
+use Rattle.foundation.proofs.Order.{all-fails}
 use Rattle.receiver_state.specs.Receiver.{freshReceiver, freshFor, allHeld, transactionGood, transactionNone, noneFrom, receiverGood}
 use Rattle.receiver_state.specs.declared.Receiver.{Receiver}
 use Rattle.receiver_state.specs.declared.Fresh.{Fresh}

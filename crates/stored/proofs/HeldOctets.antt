@@ -10,10 +10,10 @@ use borrow.Author.Tests.{eq-eqb, eqb-true}
 use lib.Dec.{T, eqb}
 use lib.ListN.{length, getD, take, drop, length-drop}
 use lib.Seq.{length-take-le, ext-getD, getD-take, getD-drop}
-use Rattle.codes.specs.Order.{every}
-use Rattle.codes.proofs.Tests.{every-at, every-true}
+use Rattle.foundation.specs.Order.{every}
+use Rattle.foundation.proofs.Tests.{every-at, every-true}
 use Rattle.messages.specs.Messages.{blockSize, mostBlocks}
-use Rattle.codes.proofs.Tests.{either}
+use Rattle.foundation.proofs.Tests.{either}
 use Rattle.receiver_state.specs.Receiver.{blockAt, storeSize, held}
 use Rattle.receiver_state.specs.declared.Receiver.{Receiver}
 use Rattle.stored.specs.Stored.{heldOctets, clear, zerosFrom}

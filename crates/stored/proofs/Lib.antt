@@ -4,6 +4,5 @@ pub mod RestoredBack
 pub mod StoreReading
 pub mod SavingBack
 pub mod Claims
-pub mod Copying
 pub mod SaveLaw
 pub mod Numbers

@@ -10,11 +10,10 @@ use borrow.Author.Tests.{eq-eqb, ne-eqb, eqb-true}
 use lib.Dec.{eqb}
 use lib.ListN.{length, getD, take, drop, length-drop}
 use lib.Seq.{take-all, length-take-le}
-use Rattle.codes.specs.Order.{firstFailed}
-use Rattle.codes.proofs.Tests.{last}
+use Rattle.foundation.specs.Order.{firstFailed, all}
+use Rattle.foundation.proofs.Tests.{last}
 use Rattle.checks.specs.Checks.{headerGood}
-use Rattle.transactions.specs.Transactions.{all}
-use Rattle.transactions.proofs.Order.{all-fails, passed}
+use Rattle.foundation.proofs.Order.{all-fails, passed}
 use Rattle.receiver_state.specs.Receiver.{storeSize, receiverGood}
 use Rattle.receiver_state.specs.declared.Receiver.{Receiver}
 use Rattle.stored.specs.Stored.{storedBlock, zerosAt, zeroPart, saved, saveNumber, afterSave, block0, block1, receiverIn, storeIn, zerosFrom, clear, layoutTests, restoreTests, restoreNumber, restored, afterRestore}

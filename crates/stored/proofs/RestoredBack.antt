@@ -9,14 +9,13 @@ use borrow.Author.Tests.{eq-eqb, eqb-true, ltb-true, lt-ltb, leb-true}
 use lib.Dec.{eqb}
 use lib.ListN.{length, getD, take}
 use Rattle.addresses.specs.declared.RadioAddress.{RadioAddress}
-use Rattle.codes.specs.Order.{firstFailed, every}
+use Rattle.foundation.specs.Order.{firstFailed, every, all}
 use Rattle.checks.specs.Checks.{headerGood, messageGood}
 use Rattle.messages.specs.Messages.{blockSize, mostBlocks}
-use Rattle.transactions.specs.Transactions.{all}
 use Rattle.transactions.specs.Flags.{flagCount, flagged}
 use Rattle.transactions.specs.declared.header.Transaction.{Transaction}
-use Rattle.codes.proofs.Tests.{either}
-use Rattle.transactions.proofs.Order.{all-at, all-cons, all-nil, first-passed, first-run, numbered}
+use Rattle.foundation.proofs.Tests.{either}
+use Rattle.foundation.proofs.Order.{all-at, all-cons, all-nil, first-passed, first-run, numbered}
 use Rattle.receiver_state.specs.Receiver.{storeSize, noFlags, freshReceiver, noTransaction, held, allHeld, transactionGood, transactionNone, noneFrom, receiverGood}
 use Rattle.receiver_state.specs.declared.Receiver.{Receiver}
 use Rattle.stored.specs.Stored.{storedBlock, withStoredCheck, saved, block0, block1, receiverIn, storeIn, layoutTests, restoreTests, restoreNumber, restored, afterRestore}

@@ -7,16 +7,16 @@ use native.Mathlib.Omega.{arith}
 use lib.ListN.{length, getD, take, drop, length-append, drop-of-length-le}
 use lib.Seq.{take-at, drop-at}
 use Rattle.addresses.specs.Octets.{threeOctets}
-use Rattle.polynomials.specs.Bits.{tabulate}
-use Rattle.polynomials.proofs.Runs.{tabulated}
+use Rattle.foundation.specs.Bits.{tabulate}
+use Rattle.foundation.proofs.Runs.{tabulated}
 use Rattle.transactions.specs.Flags.{flagOctetCount}
 use Rattle.receiver_state.specs.Receiver.{held}
 use Rattle.receiver_state.specs.declared.Receiver.{Receiver}
 use Rattle.stored.specs.Stored.{storedBlock, checkedSize, firstPart, secondPart, storeAt0, storeAt1, zerosAt, withStoredCheck, heldOctets, head0, body0, storedForm, saved}
-use Rattle.stored.specs.Parts.{over}
+use Rattle.foundation.specs.Octets.{over}
 use Rattle.stored.proofs.HeldOctets.{length-held}
 use Rattle.stored.proofs.ReadingBack.{checkOctets, length-checked, written0, written1, fields, head1, zeros, length-zeros, head, length-head1, length-head, written1-parts, length-written1, length-written0}
-use Rattle.stored.proofs.Copying.{Grown, grown}
+use Rattle.foundation.proofs.Copying.{Grown, grown}
 
 -- the head, octet by octet
 pub head-is : (rx : Receiver) (s0 s1 : ℕ) (os ts : List ℕ) → length (rx .flags) ≡ flagOctetCount → os ≡ threeOctets (rx .own .0)

@@ -10,14 +10,14 @@ use lib.Dec.{ltb}
 use lib.ListN.{length, getD, take, drop, length-drop, take-append-drop, drop-of-length-le}
 use lib.Seq.{length-take-le, take-at, drop-at, take-all, take-add, drop-cons, getD-take, getD-drop, ext-getD}
 use Rattle.addresses.specs.Octets.{addressAt, threeOctets}
-use Rattle.polynomials.specs.Bits.{tabulate}
-use Rattle.codes.specs.Order.{firstFailed}
+use Rattle.foundation.specs.Bits.{tabulate}
+use Rattle.foundation.specs.Order.{firstFailed}
 use Rattle.checks.specs.Checks.{headerCheck, headerGood}
 use Rattle.checks.proofs.HeaderChecks.{header-long}
 use Rattle.packets.proofs.Octets.{Octets, octets-take, octets-drop}
 use Rattle.transactions.specs.Flags.{flagOctetCount}
-use Rattle.codes.proofs.Tests.{never}
-use Rattle.transactions.proofs.Order.{numbered, passed-at}
+use Rattle.foundation.proofs.Tests.{never}
+use Rattle.foundation.proofs.Order.{numbered, passed-at}
 use Rattle.receiver_state.specs.Receiver.{storeSize, held}
 use Rattle.receiver_state.specs.declared.Receiver.{Receiver}
 use Rattle.stored.specs.Stored.{storedBlock, checkedSize, firstPart, secondPart, zeroPart, storeAt0, storeAt1, zerosAt, withStoredCheck, heldOctets, body0, storedForm, saved, block0, block1, receiverIn, storeIn, zerosFrom, clear, layoutTests, restoreTests, restoreNumber}

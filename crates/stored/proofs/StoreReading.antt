@@ -12,12 +12,12 @@ use lib.ListN.{length, getD, take, drop, length-append, length-drop, List·getD-
 use lib.Seq.{length-take-le, getD-take, getD-drop, getD-append-add}
 use Rattle.addresses.specs.Octets.{addressAt}
 use Rattle.addresses.specs.declared.RadioAddress.{RadioAddress}
-use Rattle.polynomials.specs.Bits.{tabulate}
-use Rattle.polynomials.proofs.Runs.{tabulated}
-use Rattle.codes.specs.Order.{every}
+use Rattle.foundation.specs.Bits.{tabulate}
+use Rattle.foundation.proofs.Runs.{tabulated}
+use Rattle.foundation.specs.Order.{every}
 use Rattle.messages.specs.Messages.{blockSize}
 use Rattle.transactions.specs.Flags.{flagOctetCount, flagged}
-use Rattle.transactions.proofs.Order.{every-stops, every-goes}
+use Rattle.foundation.proofs.Order.{every-stops, every-goes}
 use Rattle.receiver_state.specs.Receiver.{storeSize}
 use Rattle.receiver_state.specs.declared.Receiver.{Receiver}
 use Rattle.stored.specs.Stored.{storedBlock, firstPart, secondPart, storeAt0, storeAt1, receiverIn, storeIn, zerosFrom, clear}

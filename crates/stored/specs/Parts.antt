@@ -5,15 +5,11 @@ use mathlib.Core.List.{List, [], _∷_, _++_}
 use Prim.Native.Nat.{ℕ, _+_, _*_}
 use lib.Dec.{eqb}
 use lib.ListN.{length, getD, take, drop}
-use Rattle.codes.specs.Order.{firstFailed}
+use Rattle.foundation.specs.Order.{firstFailed}
 use Rattle.checks.specs.Checks.{messageGood}
 use Rattle.messages.specs.Messages.{blockSize}
 use Rattle.receiver_state.specs.declared.Receiver.{Receiver}
 use Rattle.stored.specs.Stored.{layoutTests}
-
--- octets written over a list at a place
-unfoldable pub over : List ℕ → ℕ → List ℕ → List ℕ
-over to at os = take at to ++ os ++ drop (at + length os) to
 
 -- octets 0 and 1 of both blocks, and their stamps
 unfoldable pub marked : List ℕ → List ℕ → Bool

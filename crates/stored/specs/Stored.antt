@@ -7,7 +7,7 @@ use lib.Dec.{eqb}
 use lib.ListN.{length, getD, take, drop, replicate}
 use Rattle.addresses.specs.Octets.{addressAt, threeOctets}
 use Rattle.addresses.specs.declared.RadioAddress.{RadioAddress}
-use Rattle.codes.specs.Order.{firstFailed, every}
+use Rattle.foundation.specs.Order.{firstFailed, every}
 use Rattle.checks.specs.Checks.{headerCheck, headerGood, messageGood}
 use Rattle.messages.specs.Messages.{blockSize}
 use Rattle.transactions.specs.Flags.{flagOctetCount, flagged}

@@ -9,7 +9,7 @@ ghost use Rattle.checks.specs.Checks.{headerCheck};
 ghost use Rattle.transactions.specs.Flags.{flagged};
 ghost use Rattle.stored.specs.Stored.{storedBlock, checkedSize, heldOctets, head0, saveNumber, afterSave};
 ghost use Rattle.stored.specs.Claims.{Savable, Restores};
-ghost use Rattle.stored.specs.Parts.{over};
+ghost use Rattle.foundation.specs.Octets.{over};
 use messages::message::BLOCK;
 use receiver_state::Receiver;
 use receiver_state::STORE;

@@ -14,13 +14,13 @@ use lib.ListN.{length, getD, set, replicate, length-set, List·getD-eq-default}
 use lib.Pow.{pow-mono, high, low, field, mod-mod-pow}
 use lib.Seq.{getD-set-same, getD-set-other, set-out, set-getD}
 use borrow.Author.Tests.{eqb-true, eqb-false, eq-eqb, ne-eqb}
-use Rattle.polynomials.specs.Bits.{bit}
-use Rattle.polynomials.proofs.Runs.{getD-tabulate, tabulated}
-use Rattle.codes.specs.Order.{every}
-use Rattle.codes.proofs.Tests.{every-at, all-eq, all-eq₂}
+use Rattle.foundation.specs.Bits.{bit}
+use Rattle.foundation.proofs.Runs.{getD-tabulate, tabulated}
+use Rattle.foundation.specs.Order.{every}
+use Rattle.foundation.proofs.Tests.{every-at, all-eq, all-eq₂}
 use Rattle.transactions.specs.Flags.{flagged, weights, flagOctets, withFlag}
-use Rattle.codes.proofs.Filling.{getD-zeros}
-use Rattle.codes.proofs.Tests.{either}
+use Rattle.foundation.proofs.Filling.{getD-zeros}
+use Rattle.foundation.proofs.Tests.{either}
 
 -- ---- one octet
 

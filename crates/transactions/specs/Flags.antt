@@ -5,7 +5,7 @@ use mathlib.Core.List.{List}
 use Prim.Native.Nat.{ℕ, zero, suc, _+_, _*_, _/_, _%_, _^_}
 use lib.Dec.{eqb}
 use lib.ListN.{getD, set}
-use Rattle.polynomials.specs.Bits.{bit, tabulate}
+use Rattle.foundation.specs.Bits.{bit, tabulate}
 
 -- eight octets of 64 flags
 abbrev pub flagOctetCount : ℕ

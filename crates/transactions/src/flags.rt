@@ -2,7 +2,7 @@
 ghost use mathlib.Core.Path.{_≡_};
 ghost use Prim.Native.Nat.{_<_};
 ghost use mathlib.Core.Bool.{not};
-ghost use Rattle.codes.specs.Order.{every};
+ghost use Rattle.foundation.specs.Order.{every};
 ghost use Rattle.transactions.specs.Flags.{flagged, withFlag};
 
 // How many flags there are.

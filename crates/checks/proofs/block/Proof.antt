@@ -7,9 +7,9 @@ use native.Mathlib.Omega.{arith}
 use lib.Bits.{bitXor}
 use lib.ListN.{length}
 use borrow.Author.Needs.{needs}
-use Rattle.polynomials.specs.Bits.{zeros, octetBit}
+use Rattle.foundation.specs.Bits.{zeros, octetBit}
 use Rattle.polynomials.specs.Remainder.{divide}
-use Rattle.polynomials.proofs.Runs.{octetBit-bits}
+use Rattle.foundation.proofs.Runs.{octetBit-bits}
 use Rattle.checks.specs.Checks.{blockGenerator, blockCheck}
 use Rattle.checks.specs.Claims.{BlockCarries}
 use Rattle.checks.proofs.Claims.{claims}

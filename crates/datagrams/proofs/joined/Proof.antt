@@ -6,8 +6,8 @@ use Prim.Native.Nat.{_-_, _≤_}
 use native.Mathlib.Omega.{arith}
 use lib.Dec.{lit≤}
 use lib.ListN.{getD, length-append}
-use Rattle.polynomials.proofs.Runs.{tabulated}
-use Rattle.codes.proofs.Filling.{Filled, filled-start, filled-more, filled-done}
+use Rattle.foundation.proofs.Runs.{tabulated}
+use Rattle.foundation.proofs.Filling.{Filled, filled-start, filled-more, filled-done}
 use Rattle.datagrams.proofs.joined.Statement.{statement}
 use Rattle.datagrams.proofs.joined.Tie as tie
 

@@ -6,7 +6,7 @@ use native.Mathlib.Omega.{arith}
 use lib.Bits.{bitXor}
 use lib.ListN.{length, getD}
 use borrow.Author.Needs.{needs}
-use Rattle.polynomials.specs.Bits.{zeros, octetBit}
+use Rattle.foundation.specs.Bits.{zeros, octetBit}
 use Rattle.polynomials.specs.Remainder.{divide, check}
 use Rattle.polynomials.proofs.Check.{check-none}
 use Rattle.polynomials.proofs.Register.{octet-more}

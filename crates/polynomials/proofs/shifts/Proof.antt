@@ -4,7 +4,7 @@ use mathlib.Core.Path.{_≡_, refl, ap, _∙_}
 use Prim.Native.Nat.{ℕ, _+_, _-_, _^_, _≤_}
 use native.Mathlib.Omega.{arith}
 use borrow.Author.Needs.{needs}
-use Rattle.polynomials.specs.Bits.{zeros}
+use Rattle.foundation.specs.Bits.{zeros}
 use Rattle.polynomials.specs.Remainder.{divide}
 use Rattle.polynomials.proofs.Check.{times-times}
 use Rattle.polynomials.proofs.shifts.Statement.{statement}

@@ -5,7 +5,7 @@ use Prim.Native.Nat.{ℕ, _+_, _*_, _%_, _^_}
 use native.Mathlib.Omega.{arith}
 use lib.Bits.{bitXor}
 use borrow.Author.Needs.{needs}
-use Rattle.polynomials.specs.Bits.{zeros}
+use Rattle.foundation.specs.Bits.{zeros}
 use Rattle.polynomials.specs.Remainder.{divide}
 use Rattle.polynomials.proofs.take_octet.Statement.{statement}
 use Rattle.polynomials.proofs.take_octet.Tie as tie

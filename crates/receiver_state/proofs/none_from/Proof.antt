@@ -4,9 +4,9 @@ use mathlib.Core.Path.{_≡_, sym, ap, _∙_}
 use Prim.Native.Nat.{ℕ}
 use native.Mathlib.Omega.{arith}
 use borrow.Author.Needs.{needs}
-use Rattle.codes.specs.Order.{every}
+use Rattle.foundation.specs.Order.{every}
 use Rattle.transactions.specs.Flags.{flagCount}
-use Rattle.transactions.proofs.Order.{every-stops, every-goes}
+use Rattle.foundation.proofs.Order.{every-stops, every-goes}
 use Rattle.receiver_state.specs.Receiver.{noneFrom}
 use Rattle.receiver_state.proofs.Possible.{notPast, none-from, flag-below, flag-past}
 use Rattle.receiver_state.proofs.none_from.Statement.{statement}

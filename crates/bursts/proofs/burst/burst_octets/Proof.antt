@@ -3,8 +3,8 @@
 use Prim.Native.Nat.{_*_, _-_, _≤_}
 use native.Mathlib.Omega.{arith}
 use lib.Dec.{lit≤}
-use Rattle.polynomials.specs.Bits.{number, octets}
-use Rattle.codes.proofs.Filling.{Filled, filled-start, filled-more, filled-done}
+use Rattle.foundation.specs.Bits.{number, octets}
+use Rattle.foundation.proofs.Filling.{Filled, filled-start, filled-more, filled-done}
 use Rattle.bursts.specs.Bursts.{burstBits}
 use Rattle.bursts.proofs.burst.burst_octets.Statement.{statement}
 use Rattle.bursts.proofs.burst.burst_octets.Tie as tie

@@ -2,7 +2,7 @@
 -- Assumes nothing.
 use mathlib.Core.Path.{ap}
 use Prim.Native.Nat.{ℕ, _-_, _/_, _%_, _^_}
-use Rattle.polynomials.specs.Bits.{octetBit}
+use Rattle.foundation.specs.Bits.{octetBit}
 use borrow.Author.Needs.{needs}
 use Rattle.codes.proofs.block_field.field_bit.Statement.{statement}
 use Rattle.codes.proofs.block_field.field_bit.Tie as tie

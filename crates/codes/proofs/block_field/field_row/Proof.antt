@@ -6,8 +6,8 @@ use native.Mathlib.Nat.{zero-add}
 use native.Mathlib.Omega.{arith}
 use lib.Dec.{lit≤}
 use borrow.Author.Needs.{needs}
-use Rattle.polynomials.specs.Bits.{number}
-use Rattle.polynomials.proofs.Runs.{number-more, number-room}
+use Rattle.foundation.specs.Bits.{number}
+use Rattle.foundation.proofs.Runs.{number-more, number-room}
 use Rattle.codes.specs.Field.{received}
 use Rattle.codes.proofs.FieldReading.{received-bits}
 use Rattle.codes.proofs.block_field.field_row.Statement.{statement}

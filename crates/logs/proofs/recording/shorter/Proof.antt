@@ -1,7 +1,7 @@
 -- `logs::recording::shorter` meets its contract.
 -- Assumes nothing.
 use mathlib.Core.Path.{sym}
-use Rattle.codes.proofs.Tests.{cond-lt, cond-ge}
+use Rattle.foundation.proofs.Tests.{cond-lt, cond-ge}
 use Rattle.logs.proofs.recording.shorter.Statement.{statement}
 use Rattle.logs.proofs.recording.shorter.Tie as tie
 

@@ -8,7 +8,7 @@ use lib.ListN.{length, getD}
 use lib.Seq.{length-take-le}
 use borrow.Author.Needs.{needs}
 use Rattle.checks.specs.Checks.{messageCheck, lowestFirst}
-use Rattle.codes.proofs.Filling.{Filled, filled-start, filled-more}
+use Rattle.foundation.proofs.Filling.{Filled, filled-start, filled-more}
 use Rattle.messages.specs.Messages.{mostOctets}
 use Rattle.messages.proofs.MessageParts.{length-ends, stored}
 use Rattle.messages.proofs.message.check_of.Statement.{statement}

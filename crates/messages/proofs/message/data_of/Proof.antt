@@ -3,7 +3,7 @@
 use Prim.Native.Nat.{_+_, _*_, _-_, _≤_}
 use native.Mathlib.Omega.{arith}
 use borrow.Author.Needs.{needs}
-use Rattle.codes.proofs.Filling.{Filled, filled-start, filled-more}
+use Rattle.foundation.proofs.Filling.{Filled, filled-start, filled-more}
 use Rattle.messages.specs.Messages.{blockSize}
 use Rattle.messages.specs.Parts.{laidOctet}
 use Rattle.messages.proofs.MessageParts.{block-is}

@@ -4,7 +4,7 @@ use mathlib.Core.Path.{refl}
 use Prim.Native.Nat.{_+_, _-_, _≤_}
 use native.Mathlib.Omega.{arith}
 use lib.ListN.{getD}
-use Rattle.codes.proofs.Filling.{Filled, filled-start, filled-more}
+use Rattle.foundation.proofs.Filling.{Filled, filled-start, filled-more}
 use Rattle.packets.proofs.BlockReading.{data-is}
 use Rattle.packets.proofs.block.data_of.Statement.{statement}
 use Rattle.packets.proofs.block.data_of.Tie as tie

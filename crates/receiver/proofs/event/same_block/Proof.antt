@@ -4,9 +4,9 @@ use mathlib.Core.Path.{_≡_, refl, sym, ap, _∙_}
 use Prim.Native.Nat.{ℕ, _-_, _≤_}
 use native.Mathlib.Omega.{arith}
 use borrow.Author.Needs.{needs}
-use Rattle.codes.specs.Order.{every}
+use Rattle.foundation.specs.Order.{every}
 use Rattle.transactions.specs.Transactions.{sameData}
-use Rattle.transactions.proofs.Order.{every-stops, every-goes}
+use Rattle.foundation.proofs.Order.{every-stops, every-goes}
 use Rattle.receiver_state.specs.Receiver.{blockAt}
 use Rattle.receiver.proofs.StoreBlocks.{sameAt, octet-same, octet-differs}
 use Rattle.receiver.proofs.event.same_block.Statement.{statement}

@@ -5,7 +5,7 @@ use borrow.Author.Tests.{eq-eqb, ne-eqb}
 use mathlib.Core.Bool.{Bool, true, false, cond}
 use borrow.Author.Needs.{needs}
 use lib.Dec.{eqb}
-use Rattle.codes.specs.Order.{firstFailed}
+use Rattle.foundation.specs.Order.{firstFailed}
 use Rattle.stored.specs.Parts.{marked}
 use Rattle.stored.proofs.restoring.is_marked.Statement.{statement}
 use Rattle.stored.proofs.restoring.is_marked.Tie as tie

@@ -5,7 +5,7 @@ use mathlib.Core.Path.{refl}
 use native.Mathlib.Omega.{arith}
 use borrow.Author.Needs.{needs}
 use Rattle.receiver_state.specs.Receiver.{storeSize}
-use Rattle.stored.proofs.Copying.{Copied, copied-start, anew-length, anew-more, anew-done}
+use Rattle.foundation.proofs.Copying.{Copied, copied-start, anew-length, anew-more, anew-done}
 use Rattle.stored.proofs.restoring.put_store.Statement.{statement}
 use Rattle.stored.proofs.restoring.put_store.Tie as tie
 

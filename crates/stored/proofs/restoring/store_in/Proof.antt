@@ -8,7 +8,7 @@ use lib.ListN.{length, length-replicate}
 use Rattle.receiver_state.specs.Receiver.{storeSize}
 use Rattle.stored.specs.Stored.{storeIn}
 use Rattle.stored.proofs.StoreReading.{length-storeIn}
-use Rattle.stored.proofs.Copying.{Copied, copied-start, anew-more, anew-done}
+use Rattle.foundation.proofs.Copying.{Copied, copied-start, anew-more, anew-done}
 use Rattle.stored.proofs.restoring.store_in.Statement.{statement}
 use Rattle.stored.proofs.restoring.store_in.Tie as tie
 

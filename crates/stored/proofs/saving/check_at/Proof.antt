@@ -6,7 +6,7 @@ use mathlib.Core.List.{[], _∷_}
 use native.Mathlib.Omega.{arith}
 use borrow.Author.Needs.{needs}
 use Rattle.stored.specs.Stored.{checkedSize}
-use Rattle.stored.specs.Parts.{over}
+use Rattle.foundation.specs.Octets.{over}
 use Rattle.stored.proofs.saving.check_at.Statement.{statement}
 use Rattle.stored.proofs.saving.check_at.Tie as tie
 

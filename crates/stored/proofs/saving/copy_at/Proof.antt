@@ -5,7 +5,7 @@ use mathlib.Core.Path.{refl}
 use native.Mathlib.Omega.{arith}
 use lib.ListN.{length}
 use borrow.Author.Needs.{needs}
-use Rattle.stored.proofs.Copying.{Copied, copied-start, copied-length, copied-more, copied-done}
+use Rattle.foundation.proofs.Copying.{Copied, copied-start, copied-length, copied-more, copied-done}
 use Rattle.stored.proofs.saving.copy_at.Statement.{statement}
 use Rattle.stored.proofs.saving.copy_at.Tie as tie
 

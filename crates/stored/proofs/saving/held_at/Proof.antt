@@ -8,7 +8,7 @@ use lib.ListN.{getD}
 use Rattle.transactions.specs.Flags.{flagged}
 use Rattle.stored.specs.Stored.{heldOctets}
 use Rattle.stored.proofs.HeldOctets.{length-held, held-at}
-use Rattle.stored.proofs.Copying.{Copied, copied-start, copied-length, copied-more, copied-done}
+use Rattle.foundation.proofs.Copying.{Copied, copied-start, copied-length, copied-more, copied-done}
 use Rattle.stored.proofs.saving.held_at.Statement.{statement}
 use Rattle.stored.proofs.saving.held_at.Tie as tie
 

@@ -5,7 +5,7 @@ use borrow.Author.Needs.{needs}
 use borrow.Author.Tests.{not-true, not-false}
 use lib.ListN.{length}
 use Rattle.transactions.specs.Flags.{flagOctetCount}
-use Rattle.stored.specs.Parts.{over}
+use Rattle.foundation.specs.Octets.{over}
 use Rattle.stored.proofs.Claims.{claims}
 use Rattle.stored.proofs.ReadingBack.{head1, zeros}
 use Rattle.stored.proofs.Numbers.{save-impossible, save-other-store, save-other-form, save-taken}

@@ -5,7 +5,7 @@ use mathlib.Core.Path.{sym}
 use native.Mathlib.Omega.{arith}
 use borrow.Author.Needs.{needs}
 use lib.ListN.{replicate, length-replicate, getD-replicate}
-use Rattle.stored.proofs.Copying.{Copied, copied-start, copied-length, copied-more, copied-done}
+use Rattle.foundation.proofs.Copying.{Copied, copied-start, copied-length, copied-more, copied-done}
 use Rattle.stored.proofs.saving.zeros_at.Statement.{statement}
 use Rattle.stored.proofs.saving.zeros_at.Tie as tie
 

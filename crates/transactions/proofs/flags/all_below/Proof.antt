@@ -5,9 +5,9 @@ use Prim.Native.Nat.{ℕ}
 use native.Mathlib.Omega.{arith}
 use borrow.Author.Needs.{needs}
 use borrow.Author.Tests.{not-true, not-false}
-use Rattle.codes.specs.Order.{every}
+use Rattle.foundation.specs.Order.{every}
 use Rattle.transactions.specs.Flags.{flagged}
-use Rattle.transactions.proofs.Order.{every-stops, every-goes}
+use Rattle.foundation.proofs.Order.{every-stops, every-goes}
 use Rattle.transactions.proofs.flags.all_below.Statement.{statement}
 use Rattle.transactions.proofs.flags.all_below.Tie as tie
 

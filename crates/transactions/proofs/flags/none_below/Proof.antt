@@ -6,9 +6,9 @@ use mathlib.Core.List.{List}
 use Prim.Native.Nat.{ℕ}
 use native.Mathlib.Omega.{arith}
 use borrow.Author.Needs.{needs}
-use Rattle.codes.specs.Order.{every}
+use Rattle.foundation.specs.Order.{every}
 use Rattle.transactions.specs.Flags.{flagged}
-use Rattle.transactions.proofs.Order.{every-stops, every-goes}
+use Rattle.foundation.proofs.Order.{every-stops, every-goes}
 use Rattle.transactions.proofs.flags.none_below.Statement.{statement}
 use Rattle.transactions.proofs.flags.none_below.Tie as tie
 

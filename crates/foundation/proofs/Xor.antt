@@ -7,7 +7,7 @@ use native.Mathlib.Omega.{arith}
 use lib.Arith.{bin-ind}
 use lib.Pow.{pow-pos}
 use lib.Bits.{bitXor, xor-shr, xor-mod, xor-add-and, xor-comm, xor-self, xor-zero-r, and-le-l, and-le-r, xor-block}
-use Rattle.polynomials.specs.Bits.{bit}
+use Rattle.foundation.specs.Bits.{bit}
 
 -- what holds of 0 and of 1 holds of a bit
 pub bit-ind : (P : ℕ → Type 0) → P 0 → P 1 → (b : ℕ) → b < 2 → P b

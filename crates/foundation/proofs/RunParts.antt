@@ -6,9 +6,9 @@ use Prim.Native.Nat.{ℕ, _+_, _*_, _-_, _/_, _%_, _^_, _≤_, _<_}
 use native.Mathlib.Nat.{div-one}
 use native.Mathlib.Omega.{arith}
 use lib.ListN.{length, getD, List·getD-eq-default}
-use Rattle.polynomials.specs.Bits.{Bits, bit, digits, octetBit, followed, number, octets}
-use Rattle.polynomials.proofs.Xor.{bit-zero}
-use Rattle.polynomials.proofs.Runs.{followed-first, followed-rest, number-ext, number-append, number-digits, length-tabulate, octetBit-octets}
+use Rattle.foundation.specs.Bits.{Bits, bit, digits, octetBit, followed, number, octets}
+use Rattle.foundation.proofs.Xor.{bit-zero}
+use Rattle.foundation.proofs.Runs.{followed-first, followed-rest, number-ext, number-append, number-digits, length-tabulate, octetBit-octets}
 
 -- ---- one run behind another: bits before position k, bits from there on, and bits across it
 

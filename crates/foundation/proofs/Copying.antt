@@ -1,14 +1,15 @@
 -- Octets written over a list, one at a time and one part behind the other.
 -- Assumes nothing.
-use mathlib.Core.Path.{_≡_, refl, ap, subst, _∙_}
-use mathlib.Core.List.{List, _++_, append-nil}
-use Prim.Native.Nat.{ℕ, _+_, _≤_, _<_}
+use mathlib.Core.Path.{_≡_, refl, sym, ap, subst, _∙_}
+use mathlib.Core.List.{List, _++_, append-nil, append-assoc}
+use Prim.Native.Nat.{ℕ, _+_, _-_, _≤_, _<_}
 use native.Mathlib.Nat.{zero-add}
 use native.Mathlib.Numerals.{add-one}
 use native.Mathlib.Omega.{arith}
-use lib.ListN.{length, getD, drop, set, length-append, drop-of-length-le}
+use lib.ListN.{length, getD, take, drop, set, length-append, length-drop, drop-of-length-le}
 use lib.Seq.{paste, paste-zero, paste-suc, length-paste, take-all, take-at, drop-drop, drop-append-add}
-use Rattle.stored.specs.Parts.{over}
+use borrow.Author.Tests.{le-leb, lt-leb}
+use Rattle.foundation.specs.Octets.{over, put}
 
 -- m is d with the first i of the octets s written at a place
 pub record Copied (d : List ℕ) (at : ℕ) (s : List ℕ) (i : ℕ) (m : List ℕ) : Type 0 where
@@ -68,3 +69,28 @@ grown p s d m m′ at e h g o =
       drop-drop (length s) (length p) d,
       length-append p s,
     )
+
+-- ---- octets put where they fit
+
+module _ (d : List ℕ) (at : ℕ) (s : List ℕ) where
+  pub put-fits : at + length s ≤ length d → put d at s ≡ over d at s
+  unfolding put
+  put-fits h = rw (le-leb (at + length s) (length d) h)
+
+  pub put-not : length d < at + length s → d ≡ put d at s
+  unfolding put
+  put-not h = rw (lt-leb (at + length s) (length d) h)
+
+  -- written to the part from the place on
+  pub part-over : at + length s ≤ length d
+      → take at d ++ ((take (length s) s ++ drop (length s) (take (length d - at) (drop at d))) ++ drop (length d - at) (drop at d)) ≡ over d at s
+  unfolding over
+  part-over h =
+      let all : length (drop at d) ≤ length d - at = omega (arith, length-drop at d) in
+      rw (
+        take-all (length s) s (omega arith),
+        take-all (length d - at) (drop at d) all,
+        drop-of-length-le (drop at d) {i = length d - at} all,
+        append-nil (s ++ drop (length s) (drop at d)),
+        drop-drop (length s) at d,
+      ) (sym (append-assoc (take at d) s (drop (at + length s) d)))
