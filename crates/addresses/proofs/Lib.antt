@@ -1,1 +1,2 @@
 pub mod OctetsBack
+pub mod Places

@@ -2,7 +2,7 @@
 ghost use mathlib.Core.Path.{_≡_};
 ghost use Prim.Native.Nat.{_+_, _*_, _^_};
 ghost use lib.Dec.{ltb};
-ghost use Rattle.addresses.specs.Octets.{threeOctets, fourOctets};
+ghost use Rattle.addresses.specs.Octets.{threeOctets, fourOctets, addressAt, numberAt};
 
 // A radio address. It has 24 bits where fits says so.
 pub struct RadioAddress(pub u32);
@@ -60,4 +60,33 @@ pub fn four_octets(n: u32) -> [u8; 4]
         (n / 256 % 256) as u8,
         (n % 256) as u8,
     ]
+}
+
+// ---- at a place of a slice: octets past the end are 0
+
+// The address in three octets from a place on.
+pub fn address_at(octets: &[u8], at: usize) -> RadioAddress
+    ensures { λ r. ⌜ r ≡ addressAt (now (octets .entry)) at ⌝ }
+{
+    if octets.len() <= at {
+        return RadioAddress(0);
+    }
+    let a = foundation::octets::at(octets, at);
+    let b = foundation::octets::at(octets, at + 1);
+    let c = foundation::octets::at(octets, at + 2);
+    radio_address(a, b, c)
+}
+
+// The number in four octets from a place on.
+pub fn number_at(octets: &[u8], at: usize) -> u32
+    ensures { λ r. ⌜ r ≡ numberAt (now (octets .entry)) at ⌝ }
+{
+    if octets.len() <= at {
+        return 0;
+    }
+    let a = foundation::octets::at(octets, at);
+    let b = foundation::octets::at(octets, at + 1);
+    let c = foundation::octets::at(octets, at + 2);
+    let d = foundation::octets::at(octets, at + 3);
+    number_of(a, b, c, d)
 }
