@@ -1,15 +1,17 @@
 -- Octets written over a list, one at a time and one part behind the other.
 -- Assumes nothing.
 use mathlib.Core.Path.{_≡_, refl, sym, ap, subst, _∙_}
-use mathlib.Core.List.{List, _++_, append-nil, append-assoc}
+use mathlib.Core.List.{List, [], _++_, append-nil, append-assoc}
 use Prim.Native.Nat.{ℕ, _+_, _-_, _≤_, _<_}
 use native.Mathlib.Nat.{zero-add}
 use native.Mathlib.Numerals.{add-one}
 use native.Mathlib.Omega.{arith}
-use lib.ListN.{length, getD, take, drop, set, length-append, length-drop, drop-of-length-le}
+use lib.Dec.{leb}
+use lib.ListN.{length, getD, take, drop, set, length-append, length-take, length-drop, drop-of-length-le}
 use lib.Seq.{paste, paste-zero, paste-suc, length-paste, take-all, take-at, drop-drop, drop-append-add}
-use borrow.Author.Tests.{le-leb, lt-leb}
+use borrow.Author.Tests.{le-leb, lt-leb, leb-true, leb-false}
 use Rattle.foundation.specs.Octets.{over, put}
+use Rattle.foundation.proofs.Tests.{either}
 
 -- m is d with the first i of the octets s written at a place
 pub record Copied (d : List ℕ) (at : ℕ) (s : List ℕ) (i : ℕ) (m : List ℕ) : Type 0 where
@@ -94,3 +96,39 @@ module _ (d : List ℕ) (at : ℕ) (s : List ℕ) where
         append-nil (s ++ drop (length s) (drop at d)),
         drop-drop (length s) at d,
       ) (sym (append-assoc (take at d) s (drop (at + length s) d)))
+
+  length-over : at + length s ≤ length d → length (over d at s) ≡ length d
+  unfolding over
+  length-over h = simp (length-append, length-take, length-drop) (omega arith)
+
+  pub length-put : length (put d at s) ≡ length d
+  length-put =
+      either (leb (at + length s) (length d))
+      (λ t. let h = leb-true (at + length s) (length d) t in ap length (put-fits h) ∙ length-over h)
+      (λ t. ap length (sym (put-not (leb-false (at + length s) (length d) t))))
+
+-- ---- parts put one behind the other
+
+module _ (d : List ℕ) where
+  pub grown-none : Grown [] d d
+  grown-none = refl
+
+  grown-length : (p m : List ℕ) → length p ≤ length d → Grown p d m → length m ≡ length d
+  grown-length p m h g = ap length g ∙ length-append p (drop (length p) d) ∙ omega (arith, length-drop (length p) d)
+
+  pub grown-put : (p s m : List ℕ) (at : ℕ) → length p ≡ at → at + length s ≤ length d → Grown p d m → Grown (p ++ s) d (put m at s)
+  grown-put p s m at e h g =
+      let l = grown-length p m (omega arith) g in
+      grown p s d m (put m at s) at e h g (put-fits m at s (omega arith))
+
+  pub grown-all : (p m : List ℕ) → length p ≡ length d → Grown p d m → m ≡ p
+  grown-all p m e g = g ∙ rw (drop-of-length-le d {i = length p} (omega arith)) (append-nil p)
+
+  -- all of it, in one part and in two
+  pub put-all : (s : List ℕ) → length s ≡ length d → put d 0 s ≡ s
+  put-all s e = grown-all s (put d 0 s) e (grown-put [] s d 0 refl (omega arith) grown-none)
+
+  pub put-both : (s t : List ℕ) (at : ℕ) → length s ≡ at → at + length t ≡ length d → put (put d 0 s) at t ≡ s ++ t
+  put-both s t at e f =
+      grown-all (s ++ t) (put (put d 0 s) at t) (length-append s t ∙ omega arith)
+      (grown-put s t (put d 0 s) at e (omega arith) (grown-put [] s d 0 refl (omega arith) grown-none))
