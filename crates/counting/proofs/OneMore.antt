@@ -6,7 +6,7 @@ use mathlib.Core.List.{List, [], _∷_, _++_}
 use Prim.Native.Nat.{ℕ, _+_, _%_, _^_}
 use native.Mathlib.Omega.{arith}
 use lib.ListN.{length-append}
-use Rattle.receiver.specs.declared.event.Answer.{Answer}
+use Rattle.reception.specs.declared.Answer.{Answer}
 use Rattle.counting.specs.Counts.{howMany, isMessage, isRefused, countsOf, OneMore}
 use Rattle.counting.specs.declared.Counts.{Counts}
 

@@ -5,34 +5,40 @@ use mathlib.Core.Bool.{Bool, true, false, cond}
 use mathlib.Core.List.{List, [], _∷_, _++_}
 use Prim.Native.Nat.{ℕ, _+_, _%_, _^_}
 use lib.ListN.{length}
-use Rattle.receiver.specs.declared.event.Answer.{Answer}
-use Rattle.receiver.specs.declared.event.Answer.the-variants.{Refused, Opened, Repeat, Stored, Bad, Message}
+use Rattle.transactions.specs.Answers.{Said, refused, opened, repeat, stored, bad, message, response, numberOf}
+use Rattle.reception.specs.Reception.{said}
+use Rattle.reception.specs.declared.Answer.{Answer}
 use Rattle.counting.specs.declared.Counts.{Counts}
 
--- document 01's number for an answer: 0 for none
+-- document 01's number for an answer: 0 for none. Which octets a message has is no matter here, so none stand for the store
 unfoldable pub answerNumber : Answer → ℕ
-answerNumber (Refused n) = n
-answerNumber Opened = 0
-answerNumber Repeat = 0
-answerNumber Stored = 0
-answerNumber Bad = 0
-answerNumber (Message n) = 0
+answerNumber a = numberOf (said a [])
+
+-- a message is handed on
+unfoldable pub handsOn : Said → Bool
+handsOn (refused n) = false
+handsOn opened = false
+handsOn repeat = false
+handsOn stored = false
+handsOn bad = false
+handsOn (message m) = true
+handsOn (response h d) = false
 
 unfoldable pub isMessage : Answer → Bool
-isMessage (Refused n) = false
-isMessage Opened = false
-isMessage Repeat = false
-isMessage Stored = false
-isMessage Bad = false
-isMessage (Message n) = true
+isMessage a = handsOn (said a [])
+
+-- a number of the table is given
+unfoldable pub refuses : Said → Bool
+refuses (refused n) = true
+refuses opened = false
+refuses repeat = false
+refuses stored = false
+refuses bad = false
+refuses (message m) = false
+refuses (response h d) = false
 
 unfoldable pub isRefused : Answer → Bool
-isRefused (Refused n) = true
-isRefused Opened = false
-isRefused Repeat = false
-isRefused Stored = false
-isRefused Bad = false
-isRefused (Message n) = false
+isRefused a = refuses (said a [])
 
 -- how many answers of a list pass a test
 unfoldable pub howMany : (Answer → Bool) → List Answer → ℕ

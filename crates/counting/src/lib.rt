@@ -3,12 +3,28 @@ ghost use mathlib.Core.Path.{_≡_};
 ghost use mathlib.Core.List.{[]};
 ghost use mathlib.Core.Bool.{cond};
 ghost use Rattle.counting.specs.Counts.{answerNumber, isMessage, isRefused, countsOf, OneMore};
-use receiver::event::Answer;
+ghost use Rattle.reception.specs.declared.Answer.the-variants.{Confirmed};
+use receiver::event;
+use reception::Answer;
 
 pub struct Counts {
     pub datagrams: u64,
     pub messages: u64,
     pub refused: u64,
+}
+
+// The number of an answer of the confirmed receiver, 0 for none.
+fn confirmed_number(a: event::Answer) -> u8
+    ensures { λ r. ⌜ r ≡ answerNumber (Confirmed a) ⌝ }
+{
+    match a {
+        event::Answer::Refused(number) => number,
+        event::Answer::Opened => 0,
+        event::Answer::Repeat => 0,
+        event::Answer::Stored => 0,
+        event::Answer::Bad => 0,
+        event::Answer::Message(_) => 0,
+    }
 }
 
 // The number of an answer, 0 for none.
@@ -17,11 +33,7 @@ pub fn number_of(a: Answer) -> u8
 {
     match a {
         Answer::Refused(number) => number,
-        Answer::Opened => 0,
-        Answer::Repeat => 0,
-        Answer::Stored => 0,
-        Answer::Bad => 0,
-        Answer::Message(_) => 0,
+        Answer::Confirmed(c) => confirmed_number(c),
     }
 }
 
@@ -48,16 +60,25 @@ fn marked(message: u64, refusal: u64) -> Marks
     Marks { message, refusal }
 }
 
+fn confirmed_marks(a: event::Answer) -> Marks
+    ensures { λ r. ⌜ (r .message ≡ cond (isMessage (Confirmed a)) 1 0) × (r .refusal ≡ cond (isRefused (Confirmed a)) 1 0) ⌝ }
+{
+    match a {
+        event::Answer::Refused(_) => marked(0, 1),
+        event::Answer::Opened => marked(0, 0),
+        event::Answer::Repeat => marked(0, 0),
+        event::Answer::Stored => marked(0, 0),
+        event::Answer::Bad => marked(0, 0),
+        event::Answer::Message(_) => marked(1, 0),
+    }
+}
+
 fn marks_of(a: Answer) -> Marks
     ensures { λ r. ⌜ (r .message ≡ cond (isMessage a) 1 0) × (r .refusal ≡ cond (isRefused a) 1 0) ⌝ }
 {
     match a {
         Answer::Refused(_) => marked(0, 1),
-        Answer::Opened => marked(0, 0),
-        Answer::Repeat => marked(0, 0),
-        Answer::Stored => marked(0, 0),
-        Answer::Bad => marked(0, 0),
-        Answer::Message(_) => marked(1, 0),
+        Answer::Confirmed(c) => confirmed_marks(c),
     }
 }
 

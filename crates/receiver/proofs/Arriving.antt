@@ -1,31 +1,22 @@
--- What a header, an end of attempt and a datagram lead to: by what was found of the receiver and of the octets.
+-- What a header and an end of attempt lead to: by what was found of the receiver and of the octets.
 -- Assumes nothing.
-use mathlib.Core.Path.{_≡_, sym, ap, ap₂, _∙_}
+use mathlib.Core.Path.{_≡_, ap₂, _∙_}
 use mathlib.Core.Bool.{Bool, true, false, cond}
 use mathlib.Core.List.{List}
-use mathlib.Core.Logic.{_≢_}
 use Prim.Native.Nat.{ℕ}
 use native.Mathlib.Omega.{arith}
 use lib.Dec.{eqb}
-use lib.ListN.{length}
-use borrow.Author.Tests.{eq-eqb, ne-eqb}
-use Rattle.datagrams.specs.Datagrams.{readDatagram}
-use Rattle.datagrams.specs.declared.Datagram.{Datagram}
-use Rattle.datagrams.proofs.DatagramClaims.{datagrams}
 use Rattle.transactions.specs.Flags.{flagged}
 use Rattle.transactions.specs.Transactions.{transactionOf, isFull, heardNumber, heardOf, belongs, repeats}
 use Rattle.transactions.specs.Answers.{noResponse, responseTo}
 use Rattle.transactions.specs.declared.header.Transaction.{Transaction}
 use Rattle.transactions.specs.declared.header.Heard.the-variants as heard
 use Rattle.foundation.proofs.Tests.{either}
-use Rattle.receiver_state.specs.Receiver.{storeSize, noFlags, receiverGood}
-use Rattle.receiver.specs.Events.{Left, answered, headerNumber, openedBy, onHeader, onBlock, onEnd, arrivedNumber, onDatagram}
-use Rattle.receiver.specs.Claims.{Arrives}
+use Rattle.receiver_state.specs.Receiver.{noFlags, receiverGood}
+use Rattle.receiver.specs.Events.{answered, headerNumber, openedBy, onHeader, onEnd}
 use Rattle.receiver.specs.Parts.{heardBy}
 use Rattle.receiver_state.specs.declared.Receiver.{Receiver}
 use Rattle.receiver.specs.declared.event.Answer.the-variants.{Refused, Opened, Repeat}
-use Rattle.receiver.specs.declared.event.Step.{Step}
-use Rattle.receiver.proofs.Claims.{claims}
 
 -- ---- headers
 
@@ -87,45 +78,3 @@ module _ (rx : Receiver) where
   pub end-good : receiverGood rx ≡ true → responseTo (rx .own) (rx .phase) (rx .transaction) (flagged (rx .flags)) ≡ onEnd rx
   unfolding onEnd
   end-good b = rw b
-
--- ---- datagrams
-
-module _ (rx : Receiver) (store d : List ℕ) where
-  -- what a datagram leads to, and the claim
-  abbrev pub Led : Step → List ℕ → Type 0
-  Led r next = (r ≡ onDatagram rx store d .step) × (next ≡ onDatagram rx store d .store) × Arrives rx store d
-
-  led : (l : Left) → l ≡ onDatagram rx store d → Led (l .step) (l .store)
-  led l e = (ap (λ (x : Left). x .step) e, ap (λ (x : Left). x .store) e, claims .datagram rx store d)
-
-  refused : (n : ℕ) → n ≢ 0 → arrivedNumber rx store d ≡ n → Led (answered rx (Refused n)) store
-  unfolding onDatagram
-  refused n z e = led (record { step = answered rx (Refused n); store = store }) (rw (e, ne-eqb n 0 z))
-
-  pub datagram-not-good : receiverGood rx ≡ false → Led (answered rx (Refused 1)) store
-  unfolding arrivedNumber
-  datagram-not-good b = refused 1 (λ z. omega arith) (rw b)
-
-  module _ (good : receiverGood rx ≡ true) where
-    pub store-not-good : length store ≢ storeSize → Led (answered rx (Refused 1)) store
-    unfolding arrivedNumber
-    store-not-good n = refused 1 (λ z. omega arith) (rw (good, ne-eqb (length store) storeSize n))
-
-    module _ (sized : length store ≡ storeSize) (x : Datagram) (is : x ≡ readDatagram d) where
-      number-is : arrivedNumber rx store d ≡ x .number
-      unfolding arrivedNumber
-      number-is = rw (good, eq-eqb (length store) storeSize sized) (sym (ap (λ (y : Datagram). y .number) is ∙ datagrams .numbered d))
-
-      pub datagram-refused : x .number ≢ 0 → Led (answered rx (Refused (x .number))) store
-      datagram-refused n = refused (x .number) n number-is
-
-      module _ (read : x .number ≡ 0) where
-        pub datagram-header : x .datatype ≡ 6 → (r : Step) → r ≡ onHeader rx (x .info) → Led r store
-        unfolding onDatagram
-        datagram-header t r e =
-            led (record { step = r; store = store }) (rw (number-is, eq-eqb (x .number) 0 read, ← is, eq-eqb (x .datatype) 6 t, e))
-
-        pub datagram-block : x .datatype ≢ 6 → (r : Step) (next : List ℕ) → r ≡ onBlock rx store (x .info) .step → next ≡ onBlock rx store (x .info) .store → Led r next
-        unfolding onDatagram
-        datagram-block t r next e f =
-            led (record { step = r; store = next }) (rw (number-is, eq-eqb (x .number) 0 read, ← is, ne-eqb (x .datatype) 6 t, e, f))

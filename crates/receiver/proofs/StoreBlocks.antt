@@ -5,13 +5,14 @@ use mathlib.Core.Bool.{Bool, true, false}
 use mathlib.Core.List.{List, _++_}
 use mathlib.Core.Logic.{_≢_}
 use Prim.Native.Nat.{ℕ, _+_, _*_, _-_, _≤_, _<_}
-use native.Mathlib.Numerals.{add-one}
 use native.Mathlib.Omega.{arith}
 use lib.Dec.{eqb, ltb}
-use lib.ListN.{length, getD, take, drop, set, length-append, length-take, length-drop, List·getD-append}
-use lib.Seq.{ext-getD, getD-take, getD-drop, getD-append-add, take-all, paste, paste-suc}
+use lib.ListN.{length, getD, take, drop, length-append, length-take, length-drop, List·getD-append}
+use lib.Seq.{ext-getD, getD-take, getD-drop, getD-append-add}
 use borrow.Author.Tests.{ltb-true, ltb-false, eq-eqb, ne-eqb}
+use Rattle.foundation.specs.Octets.{over, put}
 use Rattle.foundation.proofs.Tests.{either}
+use Rattle.foundation.proofs.Copying.{put-fits}
 use Rattle.receiver_state.specs.Receiver.{blockAt}
 use Rattle.receiver.specs.Events.{putBlock}
 
@@ -38,13 +39,8 @@ module _ (store : List ℕ) (n : ℕ) (os : List ℕ) (i : ℕ) (h : i < 10) whe
 -- ---- put in
 
 module _ (store : List ℕ) (n : ℕ) (os : List ℕ) (fits : 10 * n + 10 ≤ length store) (ten : length os ≡ 10) where
-  -- octet by octet
-  pub put-more : (i : ℕ) → i < 10 → set (paste store (10 * n) os i) (10 * n + i) (getD os i 0) ≡ paste store (10 * n) os (i + 1)
-  put-more i h = rw add-one (paste-suc store (10 * n) os i 0 (omega arith) (omega arith))
-
-  pub put-done : paste store (10 * n) os 10 ≡ putBlock store n os
-  unfolding putBlock
-  put-done = rw (take-all 10 os (omega arith))
+  pub put-block : put store (10 * n) os ≡ putBlock store n os
+  put-block = put-fits store (10 * n) os (omega arith) ∙ unfold over putBlock in rw ten
 
   head-length : length (take (10 * n) store) ≡ 10 * n
   head-length = simp (length-take) (omega arith)

@@ -8,7 +8,6 @@ use lib.ListN.{length, take, drop}
 use Rattle.checks.specs.Checks.{messageGood}
 use Rattle.messages.specs.Messages.{blockSize, checkSize}
 use Rattle.messages.specs.declared.response.ResponseOctets.{ResponseOctets}
-use Rattle.datagrams.specs.Datagrams.{datagramNumber, readDatagram}
 use Rattle.transactions.specs.Transactions.{transactionOf, isFull, heardNumber, repeats, serialOf, dataOf, takenNumber}
 use Rattle.transactions.specs.Flags.{withFlag}
 use Rattle.transactions.specs.Answers.{Said, refused, opened, repeat, stored, bad, message, noResponse, responseTo}
@@ -90,17 +89,3 @@ onBlock rx store b =
 
 unfoldable pub onEnd : Receiver → ResponseOctets
 onEnd rx = cond (receiverGood rx) (responseTo (rx .own) (rx .phase) (rx .transaction) (held rx)) (noResponse 1)
-
--- ---- a datagram
-
--- the numbers 1 to 7
-unfoldable pub arrivedNumber : Receiver → List ℕ → List ℕ → ℕ
-arrivedNumber rx store d = cond (receiverGood rx) (cond (eqb (length store) storeSize) (datagramNumber d) 1) 1
-
--- then data type 6 is a header, 7 a block
-unfoldable pub onDatagram : Receiver → List ℕ → List ℕ → Left
-onDatagram rx store d =
-    cond (eqb (arrivedNumber rx store d) 0)
-    (cond (eqb (readDatagram d .datatype) 6) (record { step = onHeader rx (readDatagram d .info); store = store })
-    (onBlock rx store (readDatagram d .info)))
-    (record { step = answered rx (Refused (arrivedNumber rx store d)); store = store })

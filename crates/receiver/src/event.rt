@@ -7,9 +7,9 @@ ghost use lib.Dec.{eqb};
 ghost use Rattle.messages.specs.Messages.{blockSize};
 ghost use Rattle.transactions.specs.Transactions.{belongs, sameData};
 ghost use Rattle.receiver_state.specs.Receiver.{blockAt, storeSize, transactionGood};
-ghost use Rattle.receiver.specs.Events.{answered, onHeader, putBlock, taken, onBlock, onEnd, onDatagram};
+ghost use Rattle.receiver.specs.Events.{answered, onHeader, putBlock, taken, onBlock, onEnd};
 ghost use Rattle.receiver.specs.declared.event.Answer.the-variants.{Refused};
-ghost use Rattle.receiver.specs.Claims.{HeaderRefused, BlockRefused, Arrives};
+ghost use Rattle.receiver.specs.Claims.{HeaderRefused, BlockRefused};
 ghost use Rattle.receiver.specs.Parts.{heardBy, numberWith};
 use messages::message::BLOCK;
 use messages::message::CHECK;
@@ -120,11 +120,7 @@ fn put_block(store: &mut [u8], n: usize, octets: [u8; BLOCK])
     requires { ⌜ blockSize * n + blockSize ≤ length (now store) ⌝ }
     ensures { λ r. ⌜ now (store .exit) ≡ putBlock (now (store .entry)) n octets ⌝ }
 {
-    let mut i: usize = 0;
-    while i < BLOCK {
-        store[BLOCK * n + i] = octets[i];
-        i += 1;
-    }
+    foundation::octets::put(store, BLOCK * n, &octets);
 }
 
 // The number of a block that is read, 0 for none.
@@ -251,29 +247,4 @@ pub fn on_end(rx: Receiver) -> ResponseOctets
     let transaction = rx.transaction;
     let flags = rx.flags;
     transactions::response::respond(own, rx.phase, transaction, flags)
-}
-
-// ---- datagrams
-
-// A datagram: its header or its block.
-pub fn on_datagram(rx: Receiver, store: &mut [u8], datagram: &[u8]) -> Step
-    ensures { λ r. ⌜ (r ≡ onDatagram rx (now (store .entry)) (now (datagram .entry)) .step)
-        × (now (store .exit) ≡ onDatagram rx (now (store .entry)) (now (datagram .entry)) .store)
-        × Arrives rx (now (store .entry)) (now (datagram .entry)) ⌝ }
-{
-    if !receiver_state::is_good(rx) {
-        return refused(rx, 1);
-    }
-    if store.len() != STORE {
-        return refused(rx, 1);
-    }
-    let d = datagrams::read(datagram);
-    if d.number != 0 {
-        return refused(rx, d.number);
-    }
-    let info = d.info;
-    if d.datatype == 6 {
-        return on_header(rx, &info);
-    }
-    on_block(rx, store, &info)
 }

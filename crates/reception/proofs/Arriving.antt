@@ -1,0 +1,79 @@
+-- What a datagram leads to: by what was found of the receiver, of the store and of the datagram.
+-- Assumes nothing.
+use mathlib.Core.Path.{_≡_, sym, ap, _∙_}
+use mathlib.Core.Bool.{true, false}
+use mathlib.Core.List.{List}
+use mathlib.Core.Logic.{_≢_}
+use Prim.Native.Nat.{ℕ}
+use native.Mathlib.Omega.{arith}
+use lib.ListN.{length}
+use borrow.Author.Tests.{eq-eqb, ne-eqb}
+use Rattle.bursts.specs.Bursts.{kindOf}
+use Rattle.bursts.specs.declared.burst.Kind.{Kind}
+use Rattle.bursts.specs.declared.burst.Kind.the-variants.{Header, Block, Other}
+use Rattle.datagrams.specs.Datagrams.{readDatagram}
+use Rattle.datagrams.specs.declared.Datagram.{Datagram}
+use Rattle.datagrams.proofs.DatagramClaims.{datagrams}
+use Rattle.receiver.specs.Events.{onHeader, onBlock}
+use Rattle.receiver.specs.declared.event.Step.{Step}
+use Rattle.receiver_state.specs.Receiver.{storeSize, receiverGood}
+use Rattle.receiver_state.specs.declared.Receiver.{Receiver}
+use Rattle.reception.specs.declared.Answer.the-variants.{Refused}
+use Rattle.reception.specs.declared.Arrival.{Arrival}
+use Rattle.reception.specs.declared.Received.{Received}
+use Rattle.reception.specs.Reception.{Left, received, arrivalOf, arrivedNumber, byReceiver, passedOn, onDatagram}
+use Rattle.reception.specs.Claims.{Arrives}
+use Rattle.reception.proofs.Claims.{claims}
+
+-- what a datagram brings, by what was read of it
+pub arrival-is : (d : List ℕ) (x : Datagram) → x ≡ readDatagram d → (k : Kind) → k ≡ kindOf (x .datatype)
+    → record { number = x .number; kind = k; octets = x .info } ≡ arrivalOf d
+unfolding arrivalOf
+arrival-is d x is k e = rw (e, is, datagrams .numbered d)
+
+module _ (rx : Receiver) (store d : List ℕ) where
+  -- what is received and left, and the claim
+  abbrev pub Led : Received → List ℕ → Type 0
+  Led r next = (r ≡ onDatagram rx store d .received) × (next ≡ onDatagram rx store d .store) × Arrives rx store d
+
+  led : (l : Left) → l ≡ onDatagram rx store d → Led (l .received) (l .store)
+  led l e = (ap (λ (x : Left). x .received) e, ap (λ (x : Left). x .store) e, claims .datagram rx store d)
+
+  refused : (n : ℕ) → n ≢ 0 → arrivedNumber rx store d ≡ n → Led (received rx (Refused n)) store
+  unfolding onDatagram
+  refused n z e = led (record { received = received rx (Refused n); store = store }) (rw (e, ne-eqb n 0 z))
+
+  pub not-good : receiverGood rx ≡ false → Led (received rx (Refused 1)) store
+  unfolding arrivedNumber
+  not-good b = refused 1 (λ z. omega arith) (rw b)
+
+  module _ (good : receiverGood rx ≡ true) where
+    pub store-not-good : length store ≢ storeSize → Led (received rx (Refused 1)) store
+    unfolding arrivedNumber
+    store-not-good n = refused 1 (λ z. omega arith) (rw (good, ne-eqb (length store) storeSize n))
+
+    module _ (sized : length store ≡ storeSize) (x : Arrival) (is : x ≡ arrivalOf d) where
+      number-is : arrivedNumber rx store d ≡ x .number
+      unfolding arrivedNumber
+      number-is = rw (good, eq-eqb (length store) storeSize sized, ← is)
+
+      pub not-taken : x .number ≢ 0 → Led (received rx (Refused (x .number))) store
+      not-taken n = refused (x .number) n number-is
+
+      module _ (read : x .number ≡ 0) where
+        handed : passedOn rx store (x .kind) (x .octets) ≡ onDatagram rx store d
+        unfolding onDatagram
+        handed = rw (number-is, eq-eqb (x .number) 0 read, ← is)
+
+        pub header-taken : x .kind ≡ Header → (s : Step) → s ≡ onHeader rx (x .octets) → Led (byReceiver s) store
+        unfolding passedOn
+        header-taken k s e = led (record { received = byReceiver s; store = store }) (rw (e, ← handed, k))
+
+        pub block-taken : x .kind ≡ Block → (s : Step) (next : List ℕ) → s ≡ onBlock rx store (x .octets) .step
+            → next ≡ onBlock rx store (x .octets) .store → Led (byReceiver s) next
+        unfolding passedOn
+        block-taken k s next e f = led (record { received = byReceiver s; store = next }) (rw (e, f, ← handed, k))
+
+        pub other-refused : x .kind ≡ Other → Led (received rx (Refused 5)) store
+        unfolding passedOn
+        other-refused k = led (record { received = received rx (Refused 5); store = store }) (rw (← handed, k))
