@@ -1,21 +1,25 @@
 -- An event on a form: the order of its checks, and what each leaves.
 -- Assumes nothing.
 use mathlib.Core.Path.{_≡_, refl, sym, ap, subst, _∙_}
-use mathlib.Core.Bool.{false, cond}
+use mathlib.Core.Bool.{true, false, cond}
 use mathlib.Core.List.{List, []}
 use mathlib.Core.Logic.{_≢_}
 use Prim.Native.Nat.{ℕ, _*_}
 use native.Mathlib.Omega.{arith}
 use native.Mathlib.Decide.{ℕ-discrete}
-use lib.Dec.{eqb}
+use lib.Dec.{eqb, lit<}
 use lib.ListN.{length, getD, replicate, length-replicate}
 use borrow.Author.Tests.{eq-eqb, ne-eqb, eqb-true}
-use Rattle.foundation.specs.Order.{firstFailed}
-use Rattle.datagrams.specs.Datagrams.{datagramNumber, readDatagram}
-use Rattle.datagrams.specs.declared.Datagram.{Datagram}
-use Rattle.datagrams.proofs.DatagramNumbers.{read-number}
+use Rattle.foundation.specs.Order.{firstFailed, all}
+use Rattle.bursts.specs.Bursts.{known}
+use Rattle.bursts.specs.declared.burst.Kind.{Kind}
+use Rattle.bursts.specs.declared.burst.Kind.the-variants.{Header, Block, Other}
+use Rattle.datagrams.specs.Datagrams.{datagramNumber}
+use Rattle.reception.specs.Reception.{arrivalOf}
+use Rattle.reception.specs.declared.Arrival.{Arrival}
+use Rattle.reception.proofs.Claims.{brings}
 use Rattle.transactions.specs.Answers.{refused, numberOf}
-use Rattle.foundation.proofs.Tests.{either}
+use Rattle.foundation.proofs.Tests.{either, never}
 use Rattle.receiver_state.specs.declared.Receiver.{Receiver}
 use Rattle.stored.specs.Stored.{storedBlock, saved, afterSave}
 use Rattle.stored.specs.Claims.{Savable}
@@ -23,10 +27,10 @@ use Rattle.history.specs.History.{Event, header, block, ended}
 use Rattle.history.specs.Run.{event, State, answerTo, savedForm}
 use Rattle.history.specs.Claims.{Octets}
 use Rattle.history.proofs.Demand3.{Given}
-use Rattle.logs.specs.Log.{Record, act, recordOf, lineOf, afterRecord, lineIn, lineSize, stateOf}
+use Rattle.logs.specs.Log.{Record, act, none, recordOf, lineOf, afterRecord, lineIn, lineSize, stateOf}
 use Rattle.logs.proofs.OneRecord.{header-kind, block-kind, end-kind, form-of}
-use Rattle.forms.specs.Forms.{stateIn, formNumber, lineNumber, eventNumber, formAfter, lineAfter, carried}
-use Rattle.forms.specs.Parts.{AnEvent, Answered}
+use Rattle.forms.specs.Forms.{stateIn, formNumber, lineNumber, eventNumber, formAfter, lineAfter, carriedBy, carried}
+use Rattle.forms.specs.Parts.{AnEvent, Answered, kindNumber}
 use Rattle.forms.proofs.Answers.{line-refused, line-taken, numbered, refused-numbered}
 use Rattle.forms.proofs.HeldHistory.{savable-after}
 use Rattle.forms.proofs.FormStates.{other-size}
@@ -132,13 +136,13 @@ module _ (form : List ℕ) (s0 s1 : ℕ) (line : List ℕ) (number : ℕ) (r : R
 
       number-left : number ≡ 0 → eventNumber form line number r ≡ lineNumber (lineOf (stateIn form) r)
       unfolding eventNumber firstFailed
-      number-left none = rw (eq-eqb (length line) lineSize room, taken, none) (itself (lineNumber (lineOf (stateIn form) r)))
+      number-left zero = rw (eq-eqb (length line) lineSize room, taken, zero) (itself (lineNumber (lineOf (stateIn form) r)))
 
       pub answer-left : number ≡ 0 → (s : State) → s ≡ stateIn form → (n : ℕ) (form′ line′ : List ℕ) → Answered s r s0 s1 form line n form′ line′
           → Outcome n form′ line′
       unfolding formAfter lineAfter
-      answer-left none s is n form′ line′ a =
-          let e : eventNumber form line number r ≡ lineNumber (lineOf (stateIn form) r) = number-left none in
+      answer-left zero s is n form′ line′ a =
+          let e : eventNumber form line number r ≡ lineNumber (lineOf (stateIn form) r) = number-left zero in
           let b : Answered (stateIn form) r s0 s1 form line n form′ line′ = rw is at a in
           rw e b
 
@@ -158,14 +162,30 @@ header-is os = header-kind 0 os refl
 
 -- ---- a datagram
 
-module _ (d : List ℕ) (g : Datagram) (e : g ≡ readDatagram d) where
-  pub read-number-is : g .number ≡ datagramNumber d
-  read-number-is = ap (λ (x : Datagram). x .number) e ∙ read-number d
+none-is : (os : List ℕ) → recordOf 255 os ≡ none
+unfolding recordOf all
+none-is os = refl
 
-  pub carried-header : g .datatype ≡ 6 → recordOf 0 (g .info) ≡ carried d
-  unfolding carried
-  carried-header k = header-is (g .info) ∙ rw (← e, eq-eqb (g .datatype) 6 k)
+kind-is : (k : Kind) (os : List ℕ) → recordOf (kindNumber k) os ≡ carriedBy k os
+unfolding kindNumber carriedBy
+kind-is Header os = header-is os
+kind-is Block os = block-is os
+kind-is Other os = none-is os
 
-  pub carried-block : g .datatype ≢ 6 → recordOf 1 (g .info) ≡ carried d
+event-kind : (k : Kind) (os : List ℕ) → known k ≡ true → AnEvent (kindNumber k) os
+unfolding kindNumber known
+event-kind Header os e = (lit< tt, λ z. absurd (omega arith))
+event-kind Block os e = (lit< tt, λ z. absurd (omega arith))
+event-kind Other os e = never e refl
+
+module _ (d : List ℕ) (x : Arrival) (is : x ≡ arrivalOf d) (k : ℕ) (e : k ≡ kindNumber (x .kind)) where
+  pub brought-number : x .number ≡ datagramNumber d
+  unfolding arrivalOf
+  brought-number = rw is
+
+  pub brought-record : recordOf k (x .octets) ≡ carried d
   unfolding carried
-  carried-block k = block-is (g .info) ∙ rw (← e, ne-eqb (g .datatype) 6 k)
+  brought-record = rw (e, kind-is (x .kind) (x .octets), ← is)
+
+  pub brought-event : x .number ≡ 0 → AnEvent k (x .octets)
+  brought-event z = rw e (event-kind (x .kind) (x .octets) (ap (λ (y : Arrival). known (y .kind)) is ∙ brings d (sym (ap (λ (y : Arrival). y .number) is) ∙ z)))

@@ -9,13 +9,15 @@ use lib.ListN.{length, replicate}
 use Rattle.addresses.specs.Octets.{addressAt}
 use Rattle.addresses.specs.declared.RadioAddress.{RadioAddress}
 use Rattle.foundation.specs.Order.{firstFailed}
-use Rattle.datagrams.specs.Datagrams.{readDatagram}
+use Rattle.bursts.specs.declared.burst.Kind.{Kind}
+use Rattle.bursts.specs.declared.burst.Kind.the-variants.{Header, Block, Other}
+use Rattle.reception.specs.Reception.{arrivalOf}
 use Rattle.transactions.specs.Answers.{numberOf}
 use Rattle.receiver_state.specs.Receiver.{storeSize, freshReceiver, freshFor}
 use Rattle.stored.specs.Stored.{storedBlock, saved, block0, block1, receiverIn, storeIn, restoreNumber}
 use Rattle.history.specs.History.{header, block}
 use Rattle.history.specs.Run.{event, State, savedForm}
-use Rattle.logs.specs.Log.{Record, act, Line, answer, restored, lineOf, afterRecord, lineIn, lineSize, stateOf}
+use Rattle.logs.specs.Log.{Record, act, none, Line, answer, restored, lineOf, afterRecord, lineIn, lineSize, stateOf}
 
 -- ---- a fresh form
 
@@ -57,6 +59,11 @@ formAfter form s0 s1 line number r = cond (eqb (eventNumber form line number r) 
 unfoldable pub lineAfter : List ℕ → List ℕ → ℕ → Record → List ℕ
 lineAfter form line number r = cond (eqb (eventNumber form line number r) 0) (lineIn (lineOf (stateIn form) r)) line
 
--- a datagram is the event of its header or block octets, after its own numbers
+-- a datagram is the event that it brings, a header or a block, after its own numbers; one that is refused brings none
+unfoldable pub carriedBy : Kind → List ℕ → Record
+carriedBy Header os = act (event (header os))
+carriedBy Block os = act (event (block os))
+carriedBy Other os = none
+
 unfoldable pub carried : List ℕ → Record
-carried d = cond (eqb (readDatagram d .datatype) 6) (act (event (header (readDatagram d .info)))) (act (event (block (readDatagram d .info))))
+carried d = carriedBy (arrivalOf d .kind) (arrivalOf d .octets)

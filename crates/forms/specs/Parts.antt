@@ -6,6 +6,8 @@ use mathlib.Core.List.{List}
 use Prim.Native.Nat.{ℕ, _<_}
 use lib.Dec.{eqb}
 use lib.ListN.{length}
+use Rattle.bursts.specs.declared.burst.Kind.{Kind}
+use Rattle.bursts.specs.declared.burst.Kind.the-variants.{Header, Block, Other}
 use Rattle.history.specs.Run.{State, savedForm}
 use Rattle.logs.specs.Log.{Record, lineOf, afterRecord, lineIn}
 use Rattle.forms.specs.Forms.{lineNumber}
@@ -19,3 +21,9 @@ abbrev pub Answered : State → Record → ℕ → ℕ → List ℕ → List ℕ
 Answered s r s0 s1 form line n form′ line′ =
     (n ≡ lineNumber (lineOf s r)) × (form′ ≡ cond (eqb (lineNumber (lineOf s r)) 0) (savedForm (afterRecord s r) s0 s1) form)
     × (line′ ≡ cond (eqb (lineNumber (lineOf s r)) 0) (lineIn (lineOf s r)) line)
+
+-- the kind of the record of what a burst carries
+unfoldable pub kindNumber : Kind → ℕ
+kindNumber Header = 0
+kindNumber Block = 1
+kindNumber Other = 255

@@ -13,8 +13,9 @@ ghost use Rattle.stored.specs.Stored.{storedBlock, restored, afterRestore};
 ghost use Rattle.stored.specs.Claims.{Savable};
 ghost use Rattle.forms.specs.Forms.{freshNumber, afterFresh, eventNumber, formAfter, lineAfter, carried};
 ghost use Rattle.forms.specs.Claims.{FormClaim};
-ghost use Rattle.forms.specs.Parts.{AnEvent, Answered};
+ghost use Rattle.forms.specs.Parts.{AnEvent, Answered, kindNumber};
 use addresses::RadioAddress;
+use bursts::burst::Kind;
 use logs::recording::LINE;
 use receiver_state::Receiver;
 use receiver_state::STORE;
@@ -28,8 +29,8 @@ const BLOCK: u8 = 1;
 
 const END: u8 = 2;
 
-// The data type of a datagram that carries a header.
-const HEADER_TYPE: u8 = 6;
+// The kind that no record has.
+const NONE: u8 = 255;
 
 // The stored form of a fresh receiver; 1 for lent octets of another size, 16 for an address over 24 bits.
 pub fn fresh_form(own: RadioAddress, s0: u8, s1: u8, form: &mut [u8]) -> u8
@@ -112,7 +113,7 @@ fn on_record(
     octets: &[u8],
     line: &mut [u8],
 ) -> u8
-    requires { ⌜ AnEvent kind (now octets) ⌝ }
+    requires { ⌜ (number ≡ 0 → AnEvent kind (now octets)) ⌝ }
     ensures { λ r. ⌜ (r ≡ eventNumber (now (form .entry)) (now (line .entry)) number (recordOf kind (now (octets .entry))))
         × (now (form .exit) ≡ formAfter (now (form .entry)) s0 s1 (now (line .entry)) number (recordOf kind (now (octets .entry))))
         × (now (line .exit) ≡ lineAfter (now (form .entry)) (now (line .entry)) number (recordOf kind (now (octets .entry)))) ⌝ }
@@ -163,6 +164,17 @@ pub fn on_end(form: &mut [u8], s0: u8, s1: u8, line: &mut [u8]) -> u8
     on_record(form, s0, s1, 0, END, b"", line)
 }
 
+// The kind of the record of what a burst carries.
+fn record_kind(kind: Kind) -> u8
+    ensures { λ r. ⌜ r ≡ kindNumber kind ⌝ }
+{
+    match kind {
+        Kind::Header => HEADER,
+        Kind::Block => BLOCK,
+        Kind::Other => NONE,
+    }
+}
+
 // A datagram, on a form: the header or the block that it carries, after its own numbers.
 pub fn on_datagram(form: &mut [u8], s0: u8, s1: u8, datagram: &[u8], line: &mut [u8]) -> u8
     ensures { λ r. ⌜ (r ≡ eventNumber (now (form .entry)) (now (line .entry)) (datagramNumber (now (datagram .entry))) (carried (now (datagram .entry))))
@@ -171,11 +183,9 @@ pub fn on_datagram(form: &mut [u8], s0: u8, s1: u8, datagram: &[u8], line: &mut 
         × (now (line .exit)
         ≡ lineAfter (now (form .entry)) (now (line .entry)) (datagramNumber (now (datagram .entry))) (carried (now (datagram .entry)))) ⌝ }
 {
-    let read = datagrams::read(datagram);
-    let number = read.number;
-    let info = read.info;
-    if read.datatype == HEADER_TYPE {
-        return on_record(form, s0, s1, number, HEADER, &info, line);
-    }
-    on_record(form, s0, s1, number, BLOCK, &info, line)
+    let brought = reception::arrival_of(datagram);
+    let number = brought.number;
+    let kind = brought.kind;
+    let octets = brought.octets;
+    on_record(form, s0, s1, number, record_kind(kind), &octets, line)
 }

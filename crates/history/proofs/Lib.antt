@@ -10,5 +10,4 @@ pub mod Once
 pub mod KeptInOrder
 pub mod Delivered
 pub mod LoopingBack
-pub mod Examples
 pub mod Claims

@@ -1,5 +1,4 @@
 pub mod History
 pub mod Run
 pub mod Claims
-pub mod Examples
 pub mod Sending

@@ -1,6 +1,5 @@
 // A message written and received.
 ghost use Rattle.history.specs.Claims.{Delivered};
-ghost use Rattle.history.specs.Examples.{PExamples};
 ghost use Rattle.history.specs.Sending.{LoopsBack};
 use messages::message::Delivery;
 use receiver::event::Answer;
@@ -8,9 +7,9 @@ use receiver_state::STORE;
 
 // Writes a message, gives it whole and in order to a fresh receiver of its destination, and tells the answer to the last block. The message
 // then stands in front in the store. As the self-test of writer and receiver it also promises that restarts between the events change
-// nothing, and that the definitions give document 01's worked examples.
+// nothing.
 pub fn loop_back(message: &[u8], d: Delivery, store: &mut [u8]) -> Answer
-    ensures { λ r. ⌜ LoopsBack (now (message .entry)) d (now (store .entry)) r (now (store .exit)) × Delivered (now (message .entry)) d × PExamples ⌝ }
+    ensures { λ r. ⌜ LoopsBack (now (message .entry)) d (now (store .entry)) r (now (store .exit)) × Delivered (now (message .entry)) d ⌝ }
 {
     if store.len() != STORE {
         return Answer::Refused(1);

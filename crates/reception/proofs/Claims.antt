@@ -27,6 +27,11 @@ named : (d : List ℕ) → datagramNumber d ≡ 0 → readDatagram d .datatype �
 unfolding readDatagram
 named d e = rw e
 
+-- what is not refused is a header or a block
+pub brings : (d : List ℕ) → arrivalOf d .number ≡ 0 → known (arrivalOf d .kind) ≡ true
+unfolding arrivalOf
+brings d e = rw (named d e) (datagrams .zero d .0 (datagrams .numbered d ∙ e) .4)
+
 module _ (rx : Receiver) (store d : List ℕ) where
   small : arrivedNumber rx store d ≤ 7
   unfolding arrivedNumber arrivalOf
@@ -50,14 +55,11 @@ module _ (rx : Receiver) (store d : List ℕ) where
     good : readDatagram d .number ≡ 0
     good = datagrams .numbered d ∙ read e
 
-    kind : known (kindOf (readDatagram d .datatype)) ≡ true
-    kind = rw (named d (read e)) (datagrams .zero d .0 good .4)
-
     arrives : Arrives rx store d
     unfolding onDatagram passedOn arrivalOf kindOf
     arrives =
         either (eqb (readDatagram d .datatype) 6) (λ t. a-header good (eqb-true (readDatagram d .datatype) 6 t) (rw (e, t)))
-        (λ t. let s = seven (readDatagram d .datatype) kind t in
+        (λ t. let s = seven (readDatagram d .datatype) (brings d (read e)) t in
         a-block good s (rw (e, t, eq-eqb (readDatagram d .datatype) 7 s)))
 
   datagram : Arrives rx store d

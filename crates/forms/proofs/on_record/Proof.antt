@@ -50,7 +50,7 @@ act-on-requires c κs = let a = c .before .before .before .before .before .befor
       state-flags (a .form .now) (t .result) _ (t .ensures .0) (t .ensures .1) (c .before .before .before .before .before .if3 .left) (λ i. c .before .before .before .before .before .before .before .before .before .before .before .before .before .before .before .slice-known .given i .fits),
       c .before .before .before .before .before .before .before .before .before .before .before .if2 .left,
       c .before .before .before .before .before .before .before .before .before .before .before .before .if1 .left,
-      c .before .before .before .before .before .before .before .before .before .before .before .before .before .before .before .before .pre,
+      c .before .before .before .before .before .before .before .before .before .before .before .before .before .before .before .before .pre (c .before .before .before .before .if4 .left),
     )
 
 same-length-3 : tie.Need-same-length-3

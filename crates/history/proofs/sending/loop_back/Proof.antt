@@ -6,7 +6,6 @@ use native.Mathlib.Omega.{arith}
 use lib.ListN.{length}
 use Rattle.packets.specs.declared.header.HeaderOctets.{HeaderOctets}
 use Rattle.history.proofs.Claims.{claims}
-use Rattle.history.proofs.Examples.{examples}
 use Rattle.history.proofs.LoopingBack.{header-taken, other-store, no-header, loops-back, Looping, size-blocks, looping-none, looping-more}
 use borrow.Author.Needs.{needs}
 use Rattle.history.proofs.sending.loop_back.Statement.{statement}
@@ -23,7 +22,7 @@ abbrev μ-loop : tie.MeasureT-loop
 
 returns : tie.Need-returns Inv-loop μ-loop
 returns c = let a = c .before .before .before .args in
-    (other-store (a .message .now) (a .d) (a .store .now) (c .if1 .taken), claims .delivered (a .message .now) (a .d), examples)
+    (other-store (a .message .now) (a .d) (a .store .now) (c .if1 .taken), claims .delivered (a .message .now) (a .d))
 
 full-header-requires : tie.Need-full-header-requires Inv-loop μ-loop
 full-header-requires c κs = search needs
@@ -31,7 +30,7 @@ full-header-requires c κs = search needs
 returns-2 : tie.Need-returns-2 Inv-loop μ-loop
 returns-2 c = let a = c .before .before .before .before .before .before .args in
     let w = c .before .before .full-header in
-    (no-header (a .message .now) (a .d) (a .store .now) (c .before .before .before .if1 .left) (λ e. c .if2 .taken (number (w .ensures) ∙ e)), claims .delivered (a .message .now) (a .d), examples)
+    (no-header (a .message .now) (a .d) (a .store .now) (c .before .before .before .if1 .left) (λ e. c .if2 .taken (number (w .ensures) ∙ e)), claims .delivered (a .message .now) (a .d))
 
 fresh-for-requires : tie.Need-fresh-for-requires Inv-loop μ-loop
 fresh-for-requires c κs = search needs
@@ -91,7 +90,6 @@ returns-3 c = let a = c .before .before .before .before .before .before .before 
       loops-back (a .message .now) (a .d) (a .store .now) (c .before .before .before .before .before .before .before .before .before .before .before .before .before .if1 .left) (sym (number (w .ensures)) ∙ c .before .before .before .before .before .before .before .before .before .before .if2 .left) (l .last) (l .store)
           (l .inv .done (omega (arith, c .loop-test .left, l .inv .most, size-blocks _ (size .result) (l .inv .short) (size .ensures)))),
       claims .delivered (a .message .now) (a .d),
-      examples,
     )
 
 pub loop-back-spec : {M : Type 1} → statement M

@@ -14,7 +14,7 @@ use Rattle.messages.proofs.PacketExamples.{examples as messages}
 use Rattle.transactions.specs.Flags.{weights, flagOctets}
 use Rattle.transactions.specs.Answers.{sackFlags}
 use Rattle.transactions.specs.declared.header.Transaction.{Transaction}
-use Rattle.history.specs.Examples.{PExamples}
+use Rattle.packet_vectors.specs.Examples.{PExamples}
 
 either-way : (held : Bool) → cond held true true ≡ true
 either-way true = refl
