@@ -1,7 +1,7 @@
 // Reads the own address (3 octets) and then datagrams of 53 from standard input. For each a line with its index from 0 and its number, 0
 // for none; leftover octets are one more datagram. Then `end` with the numbers of datagrams, messages and refusals.
 ghost use mathlib.Core.Path.{_≡_};
-ghost use Prim.Native.Nat.{_+_, _*_, _-_, _≤_};
+ghost use Prim.Native.Nat.{_+_, _*_, _-_, _≤_, _<_};
 ghost use lib.ListN.{length};
 use counting::Counts;
 use receiver_state::Receiver;
@@ -29,21 +29,6 @@ struct Written {
     end: usize,
 }
 
-// Writes a number in decimal at a place of the text, and says where it ends.
-fn put_decimal(text: &mut [u8], at: usize, n: u64) -> usize
-    requires { ⌜ at + 20 ≤ length (now text) ⌝ }
-    ensures { λ r. ⌜ r ≤ at + 20 ⌝ }
-{
-    let mut digits = [0u8; 20];
-    let k = io::decimal(n, &mut digits);
-    let mut i: usize = 0;
-    while i < k {
-        text[at + i] = digits[i];
-        i += 1;
-    }
-    at + k
-}
-
 // The datagram's answer: its line at a place of the text, and what it leaves.
 fn answer(g: Gateway, store: &mut [u8], datagram: &[u8], text: &mut [u8], at: usize) -> Written
     requires { ⌜ at + 48 ≤ length (now text) ⌝ }
@@ -51,12 +36,12 @@ fn answer(g: Gateway, store: &mut [u8], datagram: &[u8], text: &mut [u8], at: us
 {
     let rx = g.receiver;
     let counts = g.counts;
-    let step = receiver::event::on_datagram(rx, store, datagram);
+    let step = reception::on_datagram(rx, store, datagram);
     let a = step.answer;
     let next = step.receiver;
-    let space = put_decimal(text, at, counts.datagrams);
+    let space = texts::put_decimal(text, at, counts.datagrams);
     text[space] = b' ';
-    let end = put_decimal(text, space + 1, counting::number_of(a) as u64);
+    let end = texts::put_decimal(text, space + 1, counting::number_of(a) as u64);
     text[end] = b'\n';
     let more = counting::counted(counts, a);
     Written {
@@ -118,16 +103,14 @@ fn read_behind(input: &mut [u8], first: usize) -> usize
     io::count(got, &input[first..])
 }
 
-// Octets at .. end become the first ones: how many these are.
+// Octets at .. end, fewer than a datagram has, become the first ones: how many these are.
 fn to_front(input: &mut [u8], at: usize, end: usize) -> usize
-    requires { ⌜ (at ≤ end) × (end ≤ length (now input)) ⌝ }
+    requires { ⌜ (at ≤ end) × (end ≤ length (now input)) × (end < at + 53) ⌝ }
     ensures { λ r. ⌜ r ≡ end - at ⌝ }
 {
-    let mut i: usize = at;
-    while i < end {
-        input[i - at] = input[i];
-        i += 1;
-    }
+    let mut begun = [0u8; DATAGRAM];
+    foundation::octets::put(&mut begun, 0, &input[at..end]);
+    foundation::octets::put(input, 0, &begun[..end - at]);
     end - at
 }
 

@@ -53,22 +53,8 @@ fn put(text: &mut [u8], at: usize, run: &[u8]) -> usize
     requires { ⌜ at + length (now run) ≤ length (now text) ⌝ }
     ensures { λ r. ⌜ r ≡ at + length (now (run .entry)) ⌝ }
 {
-    let size = run.len();
-    let mut i: usize = 0;
-    while i < size {
-        text[at + i] = run[i];
-        i += 1;
-    }
-    at + size
-}
-
-fn put_decimal(text: &mut [u8], at: usize, n: u64) -> usize
-    requires { ⌜ at + 20 ≤ length (now text) ⌝ }
-    ensures { λ r. ⌜ r ≤ at + 20 ⌝ }
-{
-    let mut digits = [0u8; 20];
-    let k = io::decimal(n, &mut digits);
-    put(text, at, &digits[..k])
+    foundation::octets::put(text, at, run);
+    at + run.len()
 }
 
 fn digit(d: u8) -> u8
@@ -123,7 +109,7 @@ fn put_contents(text: &mut [u8], at: usize, code: u8, contents: &[u8]) -> usize
     let size = contents.len();
     if code == MESSAGE {
         let space = put(text, at, b" ");
-        let end = put_decimal(text, space, size as u64);
+        let end = texts::put_decimal(text, space, size as u64);
         return put_octets(text, end, contents);
     }
     if code == RESPONSE {
@@ -144,7 +130,7 @@ fn put_line(text: &mut [u8], line: &[u8]) -> usize
 {
     let code = line[0];
     if code == REFUSED {
-        let end = put_decimal(text, 0, wide(line[FIRST]) as u64);
+        let end = texts::put_decimal(text, 0, wide(line[FIRST]) as u64);
         return put(text, end, b"\n");
     }
     let size = shorter(256 * wide(line[1]) + wide(line[2]), LINE - FIRST);

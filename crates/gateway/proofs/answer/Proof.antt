@@ -26,7 +26,7 @@ cast-put-decimal : tie.Need-cast-put-decimal
 cast-put-decimal c = search needs
 
 put-decimal-requires-2 : tie.Need-put-decimal-requires-2
-put-decimal-requires-2 c κs = simp length-set (omega arith)
+put-decimal-requires-2 c κs = search needs
 
 slice-write-text-2 : tie.Need-slice-write-text-2
 slice-write-text-2 c = omega (arith, simp length-set at (c .before .before .put-decimal2 .kept .0))

@@ -1,61 +1,61 @@
 -- `to_front` stays within the octets.
 -- Assumes nothing.
-use mathlib.Core.Path.{_≡_}
-use Prim.Native.Nat.{_-_, _≤_}
-use lib.ListN.{length}
+use mathlib.Core.Path.{sym}
+use native.Mathlib.Omega.{arith}
+use lib.Seq.{length-take-le}
 use borrow.Author.Needs.{needs}
 use Rattle.gateway.proofs.to_front.Statement.{statement}
 use Rattle.gateway.proofs.to_front.Tie as tie
 
-abbrev Inv-loop : tie.InvT-loop
-Inv-loop input₀ at end i₀ input i = (at ≤ i) × (i ≤ end) × (end ≤ length input) × (length input ≡ length input₀)
+slice-aggregate-put : tie.Need-slice-aggregate-put
+slice-aggregate-put c = search needs
 
-abbrev μ-loop : tie.MeasureT-loop
-μ-loop input₀ at end i₀ input i = end - i
+sub-put : tie.Need-sub-put
+sub-put c = search needs
 
-loop-holds : tie.Need-loop-holds Inv-loop μ-loop
-loop-holds c = search needs
+part-put-start : tie.Need-part-put-start
+part-put-start c = search needs
 
-slice-read-input : tie.Need-slice-read-input Inv-loop μ-loop
-slice-read-input c = search needs
+part-put-end : tie.Need-part-put-end
+part-put-end c = search needs
 
-sub-input : tie.Need-sub-input Inv-loop μ-loop
-sub-input c = search needs
+put-requires : tie.Need-put-requires
+put-requires c κs = search needs
 
-slice-write-input : tie.Need-slice-write-input Inv-loop μ-loop
-slice-write-input c = search needs
+sub-begun : tie.Need-sub-begun
+sub-begun c = search needs
 
-add-i : tie.Need-add-i Inv-loop μ-loop
-add-i c = search needs
+array-share-prefix-begun : tie.Need-array-share-prefix-begun
+array-share-prefix-begun c = search needs
 
-loop-less : tie.Need-loop-less Inv-loop μ-loop
-loop-less c = search needs
+slice-aggregate-put-2 : tie.Need-slice-aggregate-put-2
+slice-aggregate-put-2 c = sym (length-take-le _ _ (omega (arith, c .before .before .before .put .kept .0)))
 
-loop-again : tie.Need-loop-again Inv-loop μ-loop
-loop-again c = search needs
+put-requires-2 : tie.Need-put-requires-2
+put-requires-2 c κs = search needs
 
-sub-result : tie.Need-sub-result Inv-loop μ-loop
+sub-result : tie.Need-sub-result
 sub-result c = search needs
 
-same-length : tie.Need-same-length Inv-loop μ-loop
+same-length : tie.Need-same-length
 same-length c = search needs
 
-returns : tie.Need-returns Inv-loop μ-loop
+returns : tie.Need-returns
 returns c = search needs
 
 pub to-front-spec : {M : Type 1} → statement M
 to-front-spec =
     tie.close
     (tie.spec
-    Inv-loop
-    μ-loop
-    loop-holds
-    slice-read-input
-    sub-input
-    slice-write-input
-    add-i
-    loop-less
-    loop-again
+    slice-aggregate-put
+    sub-put
+    part-put-start
+    part-put-end
+    put-requires
+    sub-begun
+    array-share-prefix-begun
+    slice-aggregate-put-2
+    put-requires-2
     sub-result
     same-length
     returns)
