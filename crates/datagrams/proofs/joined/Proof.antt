@@ -5,9 +5,9 @@ use mathlib.Core.List.{List}
 use Prim.Native.Nat.{ℕ}
 use native.Mathlib.Omega.{arith}
 use lib.ListN.{replicate}
+use borrow.Author.Needs.{needs}
 use Rattle.foundation.specs.Octets.{put}
 use Rattle.foundation.proofs.Copying.{put-both}
-use borrow.Author.Needs.{needs}
 use Rattle.datagrams.proofs.joined.Statement.{statement}
 use Rattle.datagrams.proofs.joined.Tie as tie
 

@@ -1,7 +1,7 @@
 -- `datagrams::labels_of` meets its contract.
 -- Assumes nothing.
-use Rattle.datagrams.specs.Datagrams.{labelsOf}
 use borrow.Author.Needs.{needs}
+use Rattle.datagrams.specs.Datagrams.{labelsOf}
 use Rattle.datagrams.proofs.labels_of.Statement.{statement}
 use Rattle.datagrams.proofs.labels_of.Tie as tie
 

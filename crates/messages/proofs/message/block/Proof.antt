@@ -1,7 +1,7 @@
 -- `messages::message::block` meets its contract.
 -- Assumes nothing.
-use Rattle.messages.proofs.MessageParts.{block-refused, block-ends, inner-written, last-written}
 use borrow.Author.Needs.{needs}
+use Rattle.messages.proofs.MessageParts.{block-refused, block-ends, inner-written, last-written}
 use Rattle.messages.proofs.message.block.Statement.{statement}
 use Rattle.messages.proofs.message.block.Tie as tie
 

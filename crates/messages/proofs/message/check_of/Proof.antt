@@ -6,9 +6,9 @@ use Prim.Native.Nat.{ℕ}
 use native.Mathlib.Omega.{arith}
 use lib.ListN.{take}
 use lib.Seq.{length-take-le}
+use borrow.Author.Needs.{needs}
 use Rattle.checks.specs.Checks.{messageCheck, lowestFirst}
 use Rattle.messages.proofs.MessageParts.{stored}
-use borrow.Author.Needs.{needs}
 use Rattle.messages.proofs.message.check_of.Statement.{statement}
 use Rattle.messages.proofs.message.check_of.Tie as tie
 

@@ -3,8 +3,8 @@
 use mathlib.Core.Path.{sym, _∙_}
 use native.Mathlib.Omega.{arith}
 use lib.Seq.{length-take-le}
-use Rattle.messages.proofs.ResponseParts.{flags-are}
 use borrow.Author.Needs.{needs}
+use Rattle.messages.proofs.ResponseParts.{flags-are}
 use Rattle.messages.proofs.response.flags_of.Statement.{statement}
 use Rattle.messages.proofs.response.flags_of.Tie as tie
 

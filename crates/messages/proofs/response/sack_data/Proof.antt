@@ -4,9 +4,9 @@ use mathlib.Core.Path.{ap, _∙_}
 use mathlib.Core.List.{List}
 use Prim.Native.Nat.{ℕ}
 use native.Mathlib.Omega.{arith}
+use borrow.Author.Needs.{needs}
 use Rattle.foundation.specs.Octets.{put}
 use Rattle.messages.proofs.ResponseParts.{data-is}
-use borrow.Author.Needs.{needs}
 use Rattle.messages.proofs.response.sack_data.Statement.{statement}
 use Rattle.messages.proofs.response.sack_data.Tie as tie
 

@@ -1,8 +1,8 @@
 -- `packets::block::data_of` meets its contract.
 -- Assumes nothing.
 use mathlib.Core.Path.{_∙_}
-use Rattle.packets.proofs.BlockReading.{data-is}
 use borrow.Author.Needs.{needs}
+use Rattle.packets.proofs.BlockReading.{data-is}
 use Rattle.packets.proofs.block.data_of.Statement.{statement}
 use Rattle.packets.proofs.block.data_of.Tie as tie
 

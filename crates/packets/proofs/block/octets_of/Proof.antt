@@ -2,9 +2,9 @@
 -- Assumes nothing.
 use mathlib.Core.Path.{_∙_}
 use native.Mathlib.Omega.{arith}
+use borrow.Author.Needs.{needs}
 use Rattle.checks.proofs.BlockChecks.{blockCheck-lt}
 use Rattle.packets.proofs.BlockWriting.{whole}
-use borrow.Author.Needs.{needs}
 use Rattle.packets.proofs.block.octets_of.Statement.{statement}
 use Rattle.packets.proofs.block.octets_of.Tie as tie
 

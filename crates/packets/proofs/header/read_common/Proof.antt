@@ -1,7 +1,7 @@
 -- `packets::header::read_common` meets its contract.
 -- Assumes nothing.
-use Rattle.packets.proofs.HeaderReading.{common-is}
 use borrow.Author.Needs.{needs}
+use Rattle.packets.proofs.HeaderReading.{common-is}
 use Rattle.packets.proofs.header.read_common.Statement.{statement}
 use Rattle.packets.proofs.header.read_common.Tie as tie
 

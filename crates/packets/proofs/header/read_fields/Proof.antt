@@ -1,8 +1,8 @@
 -- `packets::header::read_fields` meets its contract.
 -- Assumes nothing.
 use native.Mathlib.Omega.{arith}
-use Rattle.packets.proofs.HeaderReading.{format-1, format-2, format-3}
 use borrow.Author.Needs.{needs}
+use Rattle.packets.proofs.HeaderReading.{format-1, format-2, format-3}
 use Rattle.packets.proofs.header.read_fields.Statement.{statement}
 use Rattle.packets.proofs.header.read_fields.Tie as tie
 
