@@ -17,6 +17,7 @@ use Rattle.packets.specs.Headers.{headerMask, part, commonOf, formatOf, 
 use Rattle.packets.specs.declared.header.Common.{Common}
 use Rattle.packets.specs.declared.header.Header.the-variants.{Response, Unconfirmed, Confirmed}
 use Rattle.packets.specs.declared.header.HeaderAnswer.the-variants.{Accepted, Refused}
+use Rattle.packets.proofs.HeaderParts.{common-equal}
 
 module _ (h : List ℕ) where
   pub size-refused : (length h ≡ 12 → ⊥) → Refused 1 ≡ readHeader h
@@ -139,14 +140,4 @@ common-is h a b e to from octet p q r d s =
     let sap : b / 16 ≡ part 4 4 (getD h 1 0) = omega (arith, octet 1) in
     let full : e / 128 ≡ part 7 1 (getD h 8 0) = omega (arith, octet 8) in
     let blocks : e % 128 ≡ part 0 7 (getD h 8 0) = omega arith in
-    λ i.
-    record {
-      group = group i;
-      requested = requested i;
-      pad = pad i;
-      sap = sap i;
-      destination = d i;
-      source = s i;
-      full = full i;
-      blocks = blocks i;
-    }
+    common-equal group requested pad sap d s full blocks
