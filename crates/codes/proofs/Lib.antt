@@ -9,5 +9,6 @@ pub mod Slices
 pub mod RowWords
 pub mod FieldWords
 pub mod FieldWriting
+pub mod Gathering
 pub mod Claims
 pub mod Examples

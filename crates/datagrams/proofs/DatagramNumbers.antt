@@ -9,7 +9,6 @@ use lib.Dec.{T, eqb}
 use lib.ListN.{length, getD, take, drop, length-drop}
 use lib.Seq.{take-all}
 use borrow.Author.Tests.{eq-eqb, ne-eqb, eqb-true}
-use Rattle.addresses.specs.Octets.{addressAt, numberAt}
 use Rattle.foundation.specs.Order.{firstFailed}
 use Rattle.codes.specs.SlotWord.{slotNumber}
 use Rattle.codes.specs.declared.block_field.BlockField.{BlockField}
@@ -114,19 +113,3 @@ module _ (d : List ℕ) where
     pub contents-read : g .number ≡ 0 → record { number = 0; labels = labelsOf d; colour = s / 16; datatype = s % 16; info = g .info } ≡ readDatagram d
     unfolding readDatagram slotData
     contents-read z = rw (field-number, z, k .slotted .slot, k .same, e)
-
-  -- ---- the labels
-
-  pub labels-made : (source target repeater stream : ℕ) → source ≡ addressAt d 5 .0 → target ≡ addressAt d 8 .0 → repeater ≡ numberAt d 11
-      → stream ≡ numberAt d 16
-      → record {
-        sequence = getD d 4 0;
-        source = record { 0 = source };
-        target = record { 0 = target };
-        repeater = record { 0 = repeater };
-        timeslot = getD d 15 0 / 128;
-        call = getD d 15 0 / 64 % 2;
-        stream = stream;
-      } ≡ labelsOf d
-  unfolding labelsOf
-  labels-made source target repeater stream s t r m = rw (s, t, r, m)

@@ -1,7 +1,7 @@
 -- Each number of reading and writing a datagram is given exactly if its row of the table is true.
 -- Assumes nothing.
 use mathlib.Core.Path.{_≡_, refl, sym, ap, subst, _∙_}
-use mathlib.Core.Bool.{Bool, true, false, cond}
+use mathlib.Core.Bool.{Bool, true, false}
 use mathlib.Core.List.{List}
 use mathlib.Core.Logic.{_⊎_, inl, inr, _≢_, _↔_}
 use Prim.Native.Nat.{ℕ, _%_, _^_, _≤_, _<_}
@@ -10,7 +10,7 @@ use native.Mathlib.Omega.{arith}
 use lib.Dec.{lit≤, lit<, ltb}
 use lib.ListN.{length, getD, take, length-drop}
 use lib.Seq.{length-take-le, getD-take, ext-getD}
-use borrow.Author.Tests.{eq-eqb, lt-ltb}
+use borrow.Author.Tests.{lt-ltb}
 use Rattle.foundation.specs.Order.{firstFailed}
 use Rattle.codes.specs.SlotWord.{readSlotType, slotNumber}
 use Rattle.codes.specs.Field.{fieldNumber, readField}

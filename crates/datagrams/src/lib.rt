@@ -3,7 +3,7 @@ ghost use mathlib.Core.Path.{_≡_};
 ghost use mathlib.Core.Bool.{true};
 ghost use mathlib.Core.List.{_++_};
 ghost use Prim.Native.Nat.{_<_};
-ghost use lib.ListN.{length, getD};
+ghost use lib.ListN.{length};
 ghost use Rattle.datagrams.specs.Datagrams.{nextSequence, prefixed, labelsOf, refusedDatagram, readDatagram, labelOctets, writeDatagram};
 ghost use Rattle.datagrams.specs.DatagramClaims.{DatagramComesBack};
 ghost use Rattle.datagrams.specs.DatagramParts.{Slotted, Kinded, labelsFit};
@@ -85,17 +85,17 @@ fn refused(number: u8) -> Datagram
 
 // What stands before the burst.
 fn labels_of(d: &[u8]) -> Labels
-    requires { ⌜ length (now d) ≡ 53 ⌝ }
     ensures { λ r. ⌜ r ≡ labelsOf (now (d .entry)) ⌝ }
 {
+    let octet = foundation::octets::at(d, 15);
     Labels {
-        sequence: d[4],
-        source: addresses::radio_address(d[5], d[6], d[7]),
-        target: addresses::radio_address(d[8], d[9], d[10]),
-        repeater: addresses::repeater_number(d[11], d[12], d[13], d[14]),
-        timeslot: d[15] / 128,
-        call: d[15] / 64 % 2,
-        stream: addresses::number_of(d[16], d[17], d[18], d[19]),
+        sequence: foundation::octets::at(d, 4),
+        source: addresses::address_at(d, 5),
+        target: addresses::address_at(d, 8),
+        repeater: RepeaterNumber(addresses::number_at(d, 11)),
+        timeslot: octet / 128,
+        call: octet / 64 % 2,
+        stream: addresses::number_at(d, 16),
     }
 }
 
@@ -205,26 +205,14 @@ fn label_octets(labels: Labels, datatype: u8) -> [u8; 20]
     ]
 }
 
-// Octet j of the labels and the burst behind them.
-fn octet_at(labels: &[u8], burst: &[u8], j: usize) -> u8
-    requires { ⌜ (length (now labels) ≡ 20) × (length (now burst) ≡ 33) × (j < 53) ⌝ }
-    ensures { λ r. ⌜ r ≡ getD (now (labels .entry) ++ now (burst .entry)) j 0 ⌝ }
-{
-    if j < 20 {
-        return labels[j];
-    }
-    burst[j - 20]
-}
-
 // The labels and the burst behind them.
 fn joined(labels: &[u8], burst: &[u8]) -> [u8; 53]
     requires { ⌜ (length (now labels) ≡ 20) × (length (now burst) ≡ 33) ⌝ }
     ensures { λ r. ⌜ r ≡ now (labels .entry) ++ now (burst .entry) ⌝ }
 {
     let mut d = [0u8; 53];
-    for j in 0..53 {
-        d[j] = octet_at(labels, burst, j);
-    }
+    foundation::octets::put(&mut d, 0, labels);
+    foundation::octets::put(&mut d, 20, burst);
     d
 }
 

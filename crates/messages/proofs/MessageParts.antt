@@ -1,21 +1,25 @@
--- Messages by their parts: numbers of blocks, headers, and blocks taken octet by octet.
+-- Messages by their parts: numbers of blocks, headers and blocks.
 -- Assumes nothing.
 use mathlib.Core.Path.{_≡_, refl, sym, ap, _∙_}
-use mathlib.Core.List.{List, [], _∷_, _++_}
+use mathlib.Core.List.{List, _++_}
 use Prim.Native.Nat.{ℕ, zero, suc, _+_, _*_, _-_, _≤_, _<_}
 use native.Mathlib.Decide.{decLt}
+use native.Mathlib.Numerals.{unary-clauses}
 use native.Mathlib.Omega.{arith}
-use lib.ListN.{length, take, drop, getD, replicate, length-append, length-drop, length-replicate, List·getD-append, List·getD-eq-default}
-use lib.Seq.{length-take-le, take-append-le, drop-append-le, getD-append-add, getD-take, getD-drop, ext-getD}
+use lib.ListN.{length, take, drop, getD, replicate, length-append, length-drop, length-replicate}
+use lib.Seq.{length-take-le, take-all, take-append-le, drop-append-le, getD-take, getD-drop, ext-getD}
 use borrow.Author.Tests.{eq-eqb, ne-eqb, lt-ltb, le-ltb, le-leb, lt-leb}
-use Rattle.foundation.proofs.Runs.{tabulated}
+use Rattle.foundation.specs.Bits.{tabulate}
+use Rattle.foundation.specs.Octets.{over, put}
 use Rattle.foundation.specs.Order.{firstFailed}
+use Rattle.foundation.proofs.Copying.{put-fits, length-put}
+use Rattle.foundation.proofs.Filling.{getD-padded}
+use Rattle.foundation.proofs.Runs.{tabulated}
 use Rattle.checks.specs.Checks.{messageCheck, lowestFirst}
-use Rattle.foundation.proofs.Filling.{Filled, filled-done, getD-padded}
 use Rattle.packets.specs.Headers.{writeHeader}
 use Rattle.packets.specs.Blocks.{writeBlock}
 use Rattle.messages.specs.Messages.{blockSize, checkSize, mostOctets, blocksOf, padOf, sizeOf, padded, laidOut, blockData, blockPartTests, writeMessageBlock, attemptHeader, refusedHeader, fullHeader, partialHeader}
-use Rattle.messages.specs.Parts.{Ends, paddedHeader, laidOctet, laidBlock}
+use Rattle.messages.specs.Parts.{Ends, paddedHeader, octetsIn}
 use Rattle.packets.specs.declared.block.BlockOctets.{BlockOctets}
 use Rattle.messages.specs.declared.message.Delivery.{Delivery}
 use Rattle.messages.specs.declared.message.Size.{Size}
@@ -77,6 +81,12 @@ module _ (n : ℕ) (d : Delivery) where
 
 -- ---- octets
 
+-- zeros behind the first n of them
+drop-zeros : (n size : ℕ) → drop n (replicate {A = ℕ} size 0) ≡ replicate (size - n) 0
+drop-zeros zero size = simp unary-clauses refl
+drop-zeros (suc n) zero = let none : 0 ≡ 0 - suc n = omega arith in ap (λ (k : ℕ). replicate k 0) none
+drop-zeros (suc n) (suc size) = simp unary-clauses (drop-zeros n size)
+
 module _ (m : List ℕ) where
   length-padded : length (padded m) ≡ length m + padOf (length m)
   unfolding padded
@@ -93,63 +103,56 @@ module _ (m : List ℕ) where
       let k = few-blocks (length m) h in
       record { place = omega arith; small = omega arith }
 
-  pub length-ends : (end : ℕ) → Ends m end → length m ≤ mostOctets
-  length-ends end e = omega (arith, length-padded)
-
   -- the message in a longer array of zeros
-  pub stored : (end n : ℕ) (store : List ℕ) → Ends m end → length m ≤ n → Filled mostOctets (λ k. getD m k 0) n store → take end store ≡ padded m
-  stored end n store e h d =
-      ext-getD 0 (take end store) (padded m) (size ∙ e .place) (λ i l. getD-take end store i 0 (omega (arith, size)) ∙ at i (decLt i n) ∙ sym (padded-octet i))
+  pub stored : (end : ℕ) → Ends m end → take end (put (replicate mostOctets 0) 0 m) ≡ padded m
+  unfolding over
+  stored end e = ext-getD 0 (take end store) (padded m) (size ∙ e .place) (λ i l. getD-take end store i 0 (omega (arith, size)) ∙ at i ∙ sym (padded-octet i))
     where
+      store : List ℕ
+      store = put (replicate mostOctets 0) 0 m
+
       size : length (take end store) ≡ end
-      size = length-take-le end store (omega (arith, d .whole, e .small))
+      size = length-take-le end store (omega (arith, length-put (replicate mostOctets 0) 0 m, length-replicate {A = ℕ} mostOctets 0, e .small))
 
-      at : (i : ℕ) → Dec (i < n) → getD store i 0 ≡ getD m i 0
-      at i (yes l) = d .done i l
-      at i (no l) = d .rest i (omega arith) ∙ sym (List·getD-eq-default m 0 (omega arith))
+      at : (i : ℕ) → getD store i 0 ≡ getD m i 0
+      at i =
+          ap (λ (os : List ℕ). getD os i 0)
+          (put-fits (replicate mostOctets 0) 0 m (omega (arith, length-padded, length-replicate {A = ℕ} mostOctets 0, e .place, e .small))
+          ∙ ap (λ (os : List ℕ). m ++ os) (drop-zeros (0 + length m) mostOctets))
+          ∙ getD-padded m (mostOctets - (0 + length m)) i
 
-  module _ (check : List ℕ) where
-    pub in-message : (i : ℕ) → i < length m → getD m i 0 ≡ laidOctet m check i
-    unfolding laidOctet
-    in-message i h = sym (List·getD-append (padded m) check 0 i (omega (arith, length-padded)) ∙ padded-octet i)
+  module _ (n : ℕ) where
+    -- the padded message from the block's start on, and the check behind it
+    abbrev rest : List ℕ
+    rest = drop (blockSize * n) (padded m)
 
-    pub in-pad : (i : ℕ) → length m ≤ i → i < length (padded m) → 0 ≡ laidOctet m check i
-    unfolding laidOctet
-    in-pad i h l = sym (List·getD-append (padded m) check 0 i l ∙ padded-octet i ∙ List·getD-eq-default m 0 h)
+    abbrev check : List ℕ
+    check = lowestFirst (messageCheck (padded m))
 
-    pub in-check : (end i : ℕ) → end ≡ length (padded m) → end ≤ i → getD check (i - end) 0 ≡ laidOctet m check i
-    unfolding laidOctet
-    in-check end i e h = sym (getD-append-add (padded m) check (i - end) 0) ∙ ap (λ (k : ℕ). getD (padded m ++ check) k 0) (omega arith)
+    front : (k : ℕ) → blockSize * n + k ≤ length (padded m) → take k rest ≡ tabulate k (λ i. getD m (blockSize * n + i) 0)
+    front k h =
+        tabulated k _ (take k rest) (length-take-le k rest (omega (arith, length-drop (blockSize * n) (padded m))))
+        (λ i l. getD-take k rest i 0 l ∙ getD-drop (blockSize * n) (padded m) i 0 ∙ padded-octet (blockSize * n + i))
 
-    -- ten octets taken one by one
-    pub block-is : (n i : ℕ) (os : List ℕ) → blockSize * n + blockSize ≤ length (padded m) + length check → blockSize ≤ i
-        → Filled blockSize (λ k. laidOctet m check (blockSize * n + k)) i os → os ≡ laidBlock m check n
-    unfolding laidOctet laidBlock
-    block-is n i os h l d = filled-done blockSize _ i os (λ k a b. absurd (omega arith)) d ∙ sym (tabulated blockSize _ (laidBlock m check n) size at)
-      where
-        size : length (laidBlock m check n) ≡ blockSize
-        size = length-take-le blockSize (drop (blockSize * n) (padded m ++ check)) (omega (arith, length-drop (blockSize * n) (padded m ++ check), length-append (padded m) check))
+    in-rest : blockSize * n ≤ length (padded m) → blockData m n ≡ take blockSize (rest ++ check)
+    unfolding blockData laidOut
+    in-rest h = ap (take blockSize) (drop-append-le (blockSize * n) (padded m) check h)
 
-        at : (k : ℕ) → k < blockSize → getD (laidBlock m check n) k 0 ≡ getD (padded m ++ check) (blockSize * n + k) 0
-        at k b = getD-take blockSize (drop (blockSize * n) (padded m ++ check)) k 0 b ∙ getD-drop (blockSize * n) (padded m ++ check) k 0
+    -- only the last block has octets of the check
+    inner-block : n + 1 < blocksOf (length m) → octetsIn m n ≡ blockData m n
+    inner-block h =
+        let long : blockSize * n + blockSize ≤ length (padded m) = omega (arith, length-padded, filled (length m)) in
+        sym (in-rest (omega arith) ∙ take-append-le blockSize rest check (omega (arith, length-drop (blockSize * n) (padded m))) ∙ front blockSize long)
 
-    -- the last block has the check
-    last-block : (n : ℕ) → check ≡ lowestFirst (messageCheck (padded m)) → laidBlock m check n ≡ blockData m n
-    unfolding laidBlock blockData laidOut
-    last-block n e = rw e
-
-    -- no other block has any of it
-    inner-block : (n : ℕ) → n + 1 < blocksOf (length m) → laidBlock m check n ≡ blockData m n
-    unfolding laidBlock blockData laidOut
-    inner-block n h = without check ∙ sym (without (lowestFirst (messageCheck (padded m))))
-      where
-        long : blockSize * n + blockSize ≤ length (padded m)
-        long = omega (arith, length-padded, filled (length m))
-
-        without : (t : List ℕ) → take blockSize (drop (blockSize * n) (padded m ++ t)) ≡ take blockSize (drop (blockSize * n) (padded m))
-        without t =
-            ap (take blockSize) (drop-append-le (blockSize * n) (padded m) t (omega (arith, long)))
-            ∙ take-append-le blockSize (drop (blockSize * n) (padded m)) t (omega (arith, long, length-drop (blockSize * n) (padded m)))
+    last-block : n + 1 ≡ blocksOf (length m) → put (octetsIn m n) (blockSize - checkSize) check ≡ blockData m n
+    unfolding over lowestFirst
+    last-block e =
+        let k : ℕ = blockSize - checkSize in
+        let size : length (padded m) ≡ blockSize * n + k = omega (arith, length-padded, filled (length m)) in
+        let part : length rest ≡ k = omega (arith, length-drop (blockSize * n) (padded m)) in
+        let is : rest ≡ tabulate k (λ i. getD m (blockSize * n + i) 0) = sym (take-all k rest (omega arith)) ∙ front k (omega arith) in
+        put-fits (octetsIn m n) k check (omega arith)
+        ∙ sym (in-rest (omega arith) ∙ take-all blockSize (rest ++ check) (omega (arith, length-append rest check)) ∙ ap (λ (os : List ℕ). os ++ check) is)
 
   -- ---- what is written
 
@@ -191,9 +194,11 @@ module _ (m : List ℕ) where
       pub block-ends : Ends m (blockSize * s .blocks - checkSize)
       block-ends = ends (s .blocks) blocks-are short
 
-      module _ (check os : List ℕ) (r : BlockOctets) (o : os ≡ laidBlock m check n) (w : r ≡ writeBlock n os) where
-        pub inner-written : n + 1 < s .blocks → r ≡ writeMessageBlock m n
-        inner-written k = block-written n short os r (omega (arith, blocks-are)) (o ∙ inner-block check n (omega (arith, blocks-are))) w
+      module _ (os : List ℕ) (o : os ≡ octetsIn m n) (r : BlockOctets) where
+        pub inner-written : n + 1 < s .blocks → r ≡ writeBlock n os → r ≡ writeMessageBlock m n
+        inner-written k = block-written n short os r (omega (arith, blocks-are)) (o ∙ inner-block n (omega (arith, blocks-are)))
 
-        pub last-written : check ≡ lowestFirst (messageCheck (padded m)) → r ≡ writeMessageBlock m n
-        last-written c = block-written n short os r (omega (arith, blocks-are)) (o ∙ last-block check n c) w
+        pub last-written : s .blocks ≤ n + 1 → (check whole : List ℕ) → check ≡ lowestFirst (messageCheck (padded m))
+            → whole ≡ put os (blockSize - checkSize) check → r ≡ writeBlock n whole → r ≡ writeMessageBlock m n
+        last-written k check whole c p =
+            block-written n short whole r (omega (arith, blocks-are)) (p ∙ rw (o, c) (last-block n (omega (arith, blocks-are))))

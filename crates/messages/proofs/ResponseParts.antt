@@ -2,15 +2,16 @@
 -- Assumes nothing.
 use mathlib.Core.Path.{_≡_, refl, sym, ap, _∙_}
 use mathlib.Core.Bool.{Bool, true, false, cond}
-use mathlib.Core.List.{List, [], _∷_, _++_}
+use mathlib.Core.List.{List}
 use mathlib.Core.Logic.{_≢_}
 use Prim.Native.Nat.{ℕ}
 use native.Mathlib.Omega.{arith}
 use lib.Dec.{eqb}
 use lib.ListN.{length, take, getD, replicate}
-use lib.Seq.{getD-take, length-take-le}
+use lib.Seq.{length-take-le}
 use borrow.Author.Tests.{eqb-true, eqb-false, eq-eqb, ne-eqb}
-use Rattle.foundation.proofs.Runs.{tabulated}
+use Rattle.foundation.specs.Octets.{put}
+use Rattle.foundation.proofs.Copying.{put-all, put-both}
 use Rattle.checks.specs.Checks.{messageCheck, lowestFirst, headerGood, messageGood}
 use Rattle.packets.specs.Headers.{headerMask, part, formatOf, commonOf, headerOf, knownFormat, readHeader, writtenHeader, widthNumber, writeHeader}
 use Rattle.messages.specs.Responses.{replyCode, responseHeader, sackData, dataOf, writeResponse, isSack, refusedResponse, readResponse}
@@ -30,36 +31,18 @@ use Rattle.messages.proofs.ResponseReading.{outcome-number, number-outc
 
 -- ---- the data block of a SACK
 
--- the first eight octets one by one
-abbrev pub eight : List ℕ → List ℕ
-eight l = getD l 0 0 ∷ getD l 1 0 ∷ getD l 2 0 ∷ getD l 3 0 ∷ getD l 4 0 ∷ getD l 5 0 ∷ getD l 6 0 ∷ getD l 7 0 ∷ []
-
-eight-is : (l : List ℕ) → length l ≡ 8 → eight l ≡ l
-eight-is l n = sym (tabulated 8 (λ k. getD l k 0) l n (λ i h. refl))
-
-pub eight-taken : (l : List ℕ) → length l ≡ 12 → eight l ≡ take 8 l
-eight-taken l n = sym (tabulated 8 (λ k. getD l k 0) (take 8 l) (length-take-le 8 l (omega arith)) (λ i h. getD-take 8 l i 0 h))
-
-pub data-is : (flags check : List ℕ) → length flags ≡ 8 → check ≡ lowestFirst (messageCheck flags)
-    → eight flags ++ (getD check 0 0 ∷ getD check 1 0 ∷ getD check 2 0 ∷ getD check 3 0 ∷ []) ≡ sackData flags
+pub data-is : (flags check : List ℕ) → length flags ≡ 8 → check ≡ lowestFirst (messageCheck flags) → put (put (replicate 12 0) 0 flags) 8 check ≡ sackData flags
 unfolding sackData lowestFirst
-data-is flags check n e = rw e (ap (λ (l : List ℕ). l ++ lowestFirst (messageCheck flags)) (eight-is flags n))
+data-is flags check n e = rw e (put-both (replicate 12 0) flags (lowestFirst (messageCheck flags)) 8 n refl)
+
+pub flags-are : (block : List ℕ) → length block ≡ 12 → put (replicate 8 0) 0 (take 8 block) ≡ take 8 block
+flags-are block n = put-all (replicate 8 0) (take 8 block) (length-take-le 8 block (omega arith))
 
 -- ---- what is written
 
-pub header-is : (r : Reply) (d : Delivery) (count class kind : ℕ) → count ≡ replyCode r .2 → class ≡ replyCode r .0 → kind ≡ replyCode r .1
-    → Response (record {
-      group = 0;
-      requested = 0;
-      pad = 0;
-      sap = d .sap;
-      destination = d .destination;
-      source = d .source;
-      full = 0;
-      blocks = count;
-    }) class kind (d .ns) ≡ responseHeader r d
-unfolding responseHeader
-header-is r d count class kind e f g = λ i. Response (record {
+-- the header with these fields
+abbrev with : Delivery → ℕ → ℕ → ℕ → Header
+with d count class kind = Response (record {
   group = 0;
   requested = 0;
   pad = 0;
@@ -67,8 +50,13 @@ header-is r d count class kind e f g = λ i. Response (record {
   destination = d .destination;
   source = d .source;
   full = 0;
-  blocks = e i;
-}) (f i) (g i) (d .ns)
+  blocks = count;
+}) class kind (d .ns)
+
+pub header-is : (r : Reply) (d : Delivery) (count class kind : ℕ) → count ≡ replyCode r .2 → class ≡ replyCode r .0 → kind ≡ replyCode r .1
+    → with d count class kind ≡ responseHeader r d
+unfolding responseHeader
+header-is r d count class kind e f g = λ i. with d (e i) (f i) (g i)
 
 module _ (r : Reply) (d : Delivery) (flags : List ℕ) (w : HeaderOctets) (e : w ≡ writeHeader (responseHeader r d)) where
   number-is : w .number ≡ widthNumber (responseHeader r d)

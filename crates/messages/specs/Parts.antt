@@ -2,10 +2,11 @@
 -- Assumes nothing.
 use mathlib.Core.Path.{_≡_}
 use mathlib.Core.Bool.{cond}
-use mathlib.Core.List.{List, _++_}
-use Prim.Native.Nat.{ℕ, _*_, _≤_}
+use mathlib.Core.List.{List}
+use Prim.Native.Nat.{ℕ, _+_, _*_, _≤_}
 use lib.Dec.{eqb}
-use lib.ListN.{length, getD, take, drop, replicate}
+use lib.ListN.{length, getD, take, replicate}
+use Rattle.foundation.specs.Bits.{tabulate}
 use Rattle.checks.specs.Checks.{messageGood}
 use Rattle.packets.specs.declared.header.Common.{Common}
 use Rattle.packets.specs.declared.header.Header.{Header}
@@ -37,12 +38,9 @@ pub record Ends (m : List ℕ) (end : ℕ) : Type 0 where
   pub place : end ≡ length (padded m)
   pub small : end ≤ mostOctets
 
--- octet i and block n of the padded message with these octets behind it
-unfoldable pub laidOctet : List ℕ → List ℕ → ℕ → ℕ
-laidOctet m check i = getD (padded m ++ check) i 0
-
-unfoldable pub laidBlock : List ℕ → List ℕ → ℕ → List ℕ
-laidBlock m check n = take blockSize (drop (blockSize * n) (padded m ++ check))
+-- the octets of m in block n, zeros past its end
+abbrev pub octetsIn : List ℕ → ℕ → List ℕ
+octetsIn m n = tabulate blockSize (λ k. getD m (blockSize * n + k) 0)
 
 -- ---- responses
 

@@ -1,10 +1,9 @@
 // A message in blocks, and the headers before them.
 ghost use mathlib.Core.Path.{_≡_};
-ghost use Prim.Native.Nat.{_+_, _*_, _≤_, _<_};
 ghost use Rattle.checks.specs.Checks.{messageCheck, lowestFirst};
 ghost use Rattle.packets.specs.Headers.{writeHeader};
-ghost use Rattle.messages.specs.Messages.{blockSize, checkSize, sizeOf, padded, writeMessageBlock, refusedHeader, fullHeader, partialHeader};
-ghost use Rattle.messages.specs.Parts.{Ends, paddedHeader, laidOctet, laidBlock};
+ghost use Rattle.messages.specs.Messages.{sizeOf, padded, writeMessageBlock, refusedHeader, fullHeader, partialHeader};
+ghost use Rattle.messages.specs.Parts.{Ends, paddedHeader, octetsIn};
 use addresses::RadioAddress;
 use packets::block::BlockOctets;
 use packets::header::Common;
@@ -118,29 +117,14 @@ pub fn partial_header(octets: usize, d: Delivery, count: u8) -> HeaderOctets
 
 // ---- blocks
 
-// Octet i of the padded message with its check behind it, which stands from `end` on.
-fn octet(message: &[u8], check: [u8; 4], end: usize, i: usize) -> u8
-    requires { ⌜ Ends (now message) end × (i < end + checkSize) ⌝ }
-    ensures { λ r. ⌜ r ≡ laidOctet (now (message .entry)) check i ⌝ }
-{
-    if i < message.len() {
-        return message[i];
-    }
-    if i < end {
-        return 0;
-    }
-    check[i - end]
-}
-
-// The data octets of block n.
-fn data_of(message: &[u8], check: [u8; 4], end: usize, n: usize) -> [u8; 10]
-    requires { ⌜ Ends (now message) end × (blockSize * n + blockSize ≤ end + checkSize) ⌝ }
-    ensures { λ r. ⌜ r ≡ laidBlock (now (message .entry)) check n ⌝ }
+// The octets of the message in block n, zeros past its end.
+fn data_of(message: &[u8], n: u8) -> [u8; 10]
+    ensures { λ r. ⌜ r ≡ octetsIn (now (message .entry)) n ⌝ }
 {
     let mut os = [0u8; BLOCK];
     let mut i: usize = 0;
     while i < BLOCK {
-        os[i] = octet(message, check, end, BLOCK * n + i);
+        os[i] = foundation::octets::at(message, BLOCK * (n as usize) + i);
         i += 1;
     }
     os
@@ -152,11 +136,7 @@ fn check_of(message: &[u8], end: usize) -> [u8; 4]
     ensures { λ r. ⌜ r ≡ lowestFirst (messageCheck (padded (now (message .entry)))) ⌝ }
 {
     let mut store = [0u8; MOST_OCTETS];
-    let mut i: usize = 0;
-    while i < message.len() {
-        store[i] = message[i];
-        i += 1;
-    }
+    foundation::octets::put(&mut store, 0, message);
     checks::message_octets(&store[..end])
 }
 
@@ -173,12 +153,12 @@ pub fn block(message: &[u8], n: usize) -> BlockOctets
             octets: [0u8; 12],
         };
     }
-    let end = BLOCK * blocks - CHECK;
+    let serial = n as u8;
+    let mut os = data_of(message, serial);
     if n + 1 < blocks {
-        let os = data_of(message, [0u8; 4], end, n);
-        return packets::block::write(n as u8, &os);
+        return packets::block::write(serial, &os);
     }
-    let check = check_of(message, end);
-    let os = data_of(message, check, end, n);
-    packets::block::write(n as u8, &os)
+    let check = check_of(message, BLOCK * blocks - CHECK);
+    foundation::octets::put(&mut os, BLOCK - CHECK, &check);
+    packets::block::write(serial, &os)
 }

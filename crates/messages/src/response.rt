@@ -81,20 +81,10 @@ fn sack_data(flags: [u8; 8]) -> [u8; 12]
     ensures { λ r. ⌜ r ≡ sackData flags ⌝ }
 {
     let check = checks::message_octets(&flags);
-    [
-        flags[0],
-        flags[1],
-        flags[2],
-        flags[3],
-        flags[4],
-        flags[5],
-        flags[6],
-        flags[7],
-        check[0],
-        check[1],
-        check[2],
-        check[3],
-    ]
+    let mut os = [0u8; 12];
+    foundation::octets::put(&mut os, 0, &flags);
+    foundation::octets::put(&mut os, 8, &check);
+    os
 }
 
 // The data block, or zeros.
@@ -170,16 +160,9 @@ fn flags_of(block: &[u8]) -> [u8; 8]
     requires { ⌜ length (now block) ≡ 12 ⌝ }
     ensures { λ r. ⌜ r ≡ take 8 (now (block .entry)) ⌝ }
 {
-    [
-        block[0],
-        block[1],
-        block[2],
-        block[3],
-        block[4],
-        block[5],
-        block[6],
-        block[7],
-    ]
+    let mut flags = [0u8; 8];
+    foundation::octets::put(&mut flags, 0, &block[..8]);
+    flags
 }
 
 // The answer by the fields of a response's header; only the data block of a SACK is looked at.

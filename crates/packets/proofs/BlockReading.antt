@@ -1,18 +1,18 @@
 -- What a block reads as, by the first test that it fails.
 -- Assumes nothing.
-use mathlib.Core.Path.{_≡_, refl, sym, ap, _∙_}
+use mathlib.Core.Path.{_≡_, refl, sym, _∙_}
 use mathlib.Core.Bool.{Bool, true, false, cond}
 use mathlib.Core.List.{List}
-use Prim.Native.Nat.{ℕ, _+_, _/_, _≤_, _<_}
+use Prim.Native.Nat.{ℕ, _/_}
 use native.Mathlib.Omega.{arith}
 use borrow.Author.Tests.{eq-eqb, ne-eqb}
 use lib.Dec.{eqb}
-use lib.ListN.{length, getD, drop, length-drop}
-use lib.Seq.{getD-drop}
-use Rattle.foundation.proofs.Runs.{tabulated}
+use lib.ListN.{length, getD, take, drop, replicate, length-drop}
+use lib.Seq.{take-all}
 use Rattle.foundation.specs.Order.{firstFailed}
 use Rattle.checks.specs.Checks.{blockGood}
-use Rattle.foundation.proofs.Filling.{Filled, filled-done}
+use Rattle.foundation.specs.Octets.{put}
+use Rattle.foundation.proofs.Copying.{put-all}
 use Rattle.packets.specs.Blocks.{blockTests, blockNumber, refusedBlock, readBlock}
 
 -- the number of a block of 12 octets, by the test that is left
@@ -42,12 +42,11 @@ module _ (b : List ℕ) where
         go true = refl
         go false = refl
 
-    -- the octets behind the first two, taken one by one
-    pub data-is : (n : ℕ) (os : List ℕ) → 10 ≤ n → Filled 10 (λ k. getD b (k + 2) 0) n os → os ≡ drop 2 b
-    data-is n os e d = filled-done 10 _ n os (λ i l h. absurd (omega arith)) d ∙ sym (tabulated 10 _ (drop 2 b) (omega (arith, length-drop 2 b)) at)
-      where
-        at : (i : ℕ) → i < 10 → getD (drop 2 b) i 0 ≡ getD b (i + 2) 0
-        at i h = getD-drop 2 b i 0 ∙ ap (λ (k : ℕ). getD b k 0) (omega arith)
+    -- the octets behind the first two, put into an array
+    pub data-is : put (replicate 10 0) 0 (take 10 (drop 2 b)) ≡ drop 2 b
+    data-is =
+        let rest = length-drop 2 b in
+        rw (take-all 10 (drop 2 b) (omega arith)) (put-all (replicate 10 0) (drop 2 b) (omega arith))
 
 -- the other way: what a number says of the octets
 module _ (b : List ℕ) (size : length b ≡ 12) where

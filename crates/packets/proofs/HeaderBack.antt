@@ -20,7 +20,7 @@ use Rattle.packets.specs.declared.header.HeaderAnswer.the-variants.{Acce
 use Rattle.packets.specs.declared.header.HeaderOctets.{HeaderOctets}
 use Rattle.packets.proofs.Octets.{all-octets}
 use Rattle.packets.proofs.Widths.{first-run, run-passed}
-use Rattle.packets.proofs.HeaderParts.{written-is}
+use Rattle.packets.proofs.HeaderParts.{written-is, common-equal}
 use Rattle.packets.proofs.HeaderWriting.{common-within, last-within, format-known, number-parts, number-within}
 use Rattle.packets.proofs.HeaderReading.{accepted, format-1, format-2, format-3}
 
@@ -59,17 +59,7 @@ module _ (format : ℕ) (c : Common) (last : ℕ) where
       let source : 65536 * (from / 65536 % 256) + 256 * (from / 256 % 256) + from % 256 ≡ from = omega arith in
       let full : part 7 1 (128 * c .full + c .blocks) ≡ c .full = omega arith in
       let blocks : part 0 7 (128 * c .full + c .blocks) ≡ c .blocks = omega arith in
-      λ i.
-      record {
-        group = group i;
-        requested = requested i;
-        pad = pad i;
-        sap = sap i;
-        destination = record { 0 = destination i };
-        source = record { 0 = source i };
-        full = full i;
-        blocks = blocks i;
-      }
+      common-equal group requested pad sap (λ i. record { 0 = destination i }) (λ i. record { 0 = source i }) full blocks
 
   octets-below : format < 16 → CommonWithin c → last < 256 → (i : ℕ) → getD octets i 0 < 256
   unfolding withCheck headerBody

@@ -9,6 +9,7 @@ use borrow.Author.Tests.{eq-eqb, ne-eqb, lt-ltb, le-ltb}
 use native.Mathlib.Decide.{ℕ-discrete, decLt}
 use lib.Dec.{eqb, ltb}
 use lib.ListN.{length, getD}
+use Rattle.addresses.specs.Octets.{addressAt}
 use Rattle.addresses.specs.declared.RadioAddress.{RadioAddress}
 use Rattle.foundation.specs.Order.{firstFailed}
 use Rattle.checks.specs.Checks.{headerGood}
@@ -16,6 +17,7 @@ use Rattle.packets.specs.Headers.{headerMask, part, commonOf, formatOf, 
 use Rattle.packets.specs.declared.header.Common.{Common}
 use Rattle.packets.specs.declared.header.Header.the-variants.{Response, Unconfirmed, Confirmed}
 use Rattle.packets.specs.declared.header.HeaderAnswer.the-variants.{Accepted, Refused}
+use Rattle.packets.proofs.HeaderParts.{common-equal}
 
 module _ (h : List ℕ) where
   pub size-refused : (length h ≡ 12 → ⊥) → Refused 1 ≡ readHeader h
@@ -118,33 +120,24 @@ module _ (h : List ℕ) (c : Common) (same : c ≡ commonOf h) where
   unfolding headerOf
   format-3 x y z f g p q r = rw (ne-eqb (formatOf h) 1 f, ne-eqb (formatOf h) 2 g) (λ i. Confirmed (same i) (p i) (q i) (r i))
 
-pub common-is : (h : List ℕ) (to from : RadioAddress) → ((i : ℕ) → getD h i 0 < 256)
-    → to .0 ≡ 65536 * getD h 2 0 + 256 * getD h 3 0 + getD h 4 0 → from .0 ≡ 65536 * getD h 5 0 + 256 * getD h 6 0 + getD h 7 0
+pub common-is : (h : List ℕ) (a b e : ℕ) (to from : RadioAddress) → ((i : ℕ) → getD h i 0 < 256)
+    → a ≡ getD h 0 0 → b ≡ getD h 1 0 → e ≡ getD h 8 0 → to ≡ addressAt h 2 → from ≡ addressAt h 5
     → record {
-      group = getD h 0 0 / 128;
-      requested = getD h 0 0 / 64 % 2;
-      pad = 16 * (getD h 0 0 / 16 % 2) + getD h 1 0 % 16;
-      sap = getD h 1 0 / 16;
+      group = a / 128;
+      requested = a / 64 % 2;
+      pad = 16 * (a / 16 % 2) + b % 16;
+      sap = b / 16;
       destination = to;
       source = from;
-      full = getD h 8 0 / 128;
-      blocks = getD h 8 0 % 128;
+      full = e / 128;
+      blocks = e % 128;
     } ≡ commonOf h
 unfolding commonOf
-common-is h to from octet d s =
-    let group : getD h 0 0 / 128 ≡ part 7 1 (getD h 0 0) = omega (arith, octet 0) in
-    let pad : 16 * (getD h 0 0 / 16 % 2) + getD h 1 0 % 16 ≡ 16 * part 4 1 (getD h 0 0) + part 0 4 (getD h 1 0) = omega arith in
-    let sap : getD h 1 0 / 16 ≡ part 4 4 (getD h 1 0) = omega (arith, octet 1) in
-    let full : getD h 8 0 / 128 ≡ part 7 1 (getD h 8 0) = omega (arith, octet 8) in
-    let blocks : getD h 8 0 % 128 ≡ part 0 7 (getD h 8 0) = omega arith in
-    λ i.
-    record {
-      group = group i;
-      requested = part 6 1 (getD h 0 0);
-      pad = pad i;
-      sap = sap i;
-      destination = record { 0 = d i };
-      source = record { 0 = s i };
-      full = full i;
-      blocks = blocks i;
-    }
+common-is h a b e to from octet p q r d s =
+    let group : a / 128 ≡ part 7 1 (getD h 0 0) = omega (arith, octet 0) in
+    let requested : a / 64 % 2 ≡ part 6 1 (getD h 0 0) = omega arith in
+    let pad : 16 * (a / 16 % 2) + b % 16 ≡ 16 * part 4 1 (getD h 0 0) + part 0 4 (getD h 1 0) = omega arith in
+    let sap : b / 16 ≡ part 4 4 (getD h 1 0) = omega (arith, octet 1) in
+    let full : e / 128 ≡ part 7 1 (getD h 8 0) = omega (arith, octet 8) in
+    let blocks : e % 128 ≡ part 0 7 (getD h 8 0) = omega arith in
+    common-equal group requested pad sap d s full blocks

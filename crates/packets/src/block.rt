@@ -24,11 +24,7 @@ fn data_of(octets: &[u8]) -> [u8; 10]
     ensures { λ r. ⌜ r ≡ drop 2 (now (octets .entry)) ⌝ }
 {
     let mut os = [0u8; 10];
-    let mut i: usize = 0;
-    while i < 10 {
-        os[i] = octets[i + 2];
-        i += 1;
-    }
+    foundation::octets::put(&mut os, 0, &octets[2..12]);
     os
 }
 
@@ -68,11 +64,7 @@ fn octets_of(serial: u8, octets: &[u8]) -> [u8; 12]
     let mut os = [0u8; 12];
     os[0] = 2 * serial + (check / 256) as u8;
     os[1] = (check % 256) as u8;
-    let mut i: usize = 0;
-    while i < 10 {
-        os[i + 2] = octets[i];
-        i += 1;
-    }
+    foundation::octets::put(&mut os, 2, octets);
     os
 }
 

@@ -2,7 +2,6 @@
 ghost use mathlib.Core.Path.{_≡_};
 ghost use Prim.Native.Nat.{_<_};
 ghost use lib.Dec.{eqb};
-ghost use lib.ListN.{length};
 ghost use Rattle.foundation.specs.Order.{firstFailed};
 ghost use Rattle.packets.specs.Headers.{commonOf, headerOf, knownFormat, readHeader, headerBody, withCheck, commonWidths, widths, writeHeader, headerFor};
 ghost use Rattle.packets.specs.HeaderClaims.{HeaderReadsBack};
@@ -47,21 +46,18 @@ pub struct HeaderOctets {
 
 // The fields that all formats have.
 fn read_common(h: &[u8]) -> Common
-    requires { ⌜ length (now h) ≡ 12 ⌝ }
     ensures { λ r. ⌜ r ≡ commonOf (now (h .entry)) ⌝ }
 {
-    let first = h[0];
-    let second = h[1];
-    let ninth = h[8];
-    let destination = addresses::radio_address(h[2], h[3], h[4]);
-    let source = addresses::radio_address(h[5], h[6], h[7]);
+    let first = foundation::octets::at(h, 0);
+    let second = foundation::octets::at(h, 1);
+    let ninth = foundation::octets::at(h, 8);
     Common {
         group: first / 128,
         requested: first / 64 % 2,
         pad: 16 * (first / 16 % 2) + second % 16,
         sap: second / 16,
-        destination,
-        source,
+        destination: addresses::address_at(h, 2),
+        source: addresses::address_at(h, 5),
         full: ninth / 128,
         blocks: ninth % 128,
     }
@@ -69,12 +65,11 @@ fn read_common(h: &[u8]) -> Common
 
 // The header, by its format; octet 9 of a format not known is read as that of format 3.
 fn read_fields(h: &[u8]) -> Header
-    requires { ⌜ length (now h) ≡ 12 ⌝ }
     ensures { λ r. ⌜ r ≡ headerOf (now (h .entry)) ⌝ }
 {
     let c = read_common(h);
-    let last = h[9];
-    match h[0] % 16 {
+    let last = foundation::octets::at(h, 9);
+    match foundation::octets::at(h, 0) % 16 {
         1 => Header::Response(c, last / 64, last / 8 % 8, last % 8),
         2 => Header::Unconfirmed(c, last % 16),
         _ => Header::Confirmed(c, last / 128, last / 16 % 8, last % 16),

@@ -1,59 +1,35 @@
--- `datagrams::joined` meets its contract: the first j octets are filled.
+-- `datagrams::joined` meets its contract.
 -- Assumes nothing.
-use mathlib.Core.Path.{refl, sym, _∙_}
-use mathlib.Core.List.{_++_}
-use Prim.Native.Nat.{_-_, _≤_}
+use mathlib.Core.Path.{ap, _∙_}
+use mathlib.Core.List.{List}
+use Prim.Native.Nat.{ℕ}
 use native.Mathlib.Omega.{arith}
-use lib.Dec.{lit≤}
-use lib.ListN.{getD, length-append}
-use Rattle.foundation.proofs.Runs.{tabulated}
-use Rattle.foundation.proofs.Filling.{Filled, filled-start, filled-more, filled-done}
+use lib.ListN.{replicate}
+use borrow.Author.Needs.{needs}
+use Rattle.foundation.specs.Octets.{put}
+use Rattle.foundation.proofs.Copying.{put-both}
 use Rattle.datagrams.proofs.joined.Statement.{statement}
 use Rattle.datagrams.proofs.joined.Tie as tie
 
-abbrev Inv-loop : tie.InvT-loop
-Inv-loop labels burst d₀ j₀ d j = (j ≤ 53) × Filled 53 (λ k. getD (labels ++ burst) k 0) j d
+slice-aggregate-put : tie.Need-slice-aggregate-put
+slice-aggregate-put c = search needs
 
-abbrev μ-loop : tie.MeasureT-loop
-μ-loop labels burst d₀ j₀ d j = 53 - j
+put-requires : tie.Need-put-requires
+put-requires c κs = search needs
 
-loop-holds : tie.Need-loop-holds Inv-loop μ-loop
-loop-holds c = (lit≤ tt, filled-start 53 (λ k. getD (c .before .before .args .labels .now ++ c .before .before .args .burst .now) k 0) 0 (λ i h. absurd (omega arith)))
+slice-aggregate-put-2 : tie.Need-slice-aggregate-put-2
+slice-aggregate-put-2 c = search needs
 
-octet-at-requires : tie.Need-octet-at-requires Inv-loop μ-loop
-octet-at-requires c κs = let p = c .before .before .before .before .pre in (p .0, p .1, omega arith)
+put-requires-2 : tie.Need-put-requires-2
+put-requires-2 c κs = search needs
 
-array-write-d : tie.Need-array-write-d Inv-loop μ-loop
-array-write-d c = omega arith
-
-add-j : tie.Need-add-j Inv-loop μ-loop
-add-j c = omega arith
-
-loop-less : tie.Need-loop-less Inv-loop μ-loop
-loop-less c = omega arith
-
-loop-again : tie.Need-loop-again Inv-loop μ-loop
-loop-again c = let a = c .before .before .before .before .before .args in
-    let l = c .before .before .loop in
-    (omega arith, filled-more 53 (λ k. getD (a .labels .now ++ a .burst .now) k 0) (l .j) (c .octet-at .result) (l .d) (c .before .loop-test .taken) (c .octet-at .ensures) (l .inv .1))
-
-returns : tie.Need-returns Inv-loop μ-loop
-returns c = let st = c .before .before .before .before in
-    let l = c .before .loop in
-    let whole = st .args .labels .now ++ st .args .burst .now in
-    filled-done 53 (λ k. getD whole k 0) (l .j) (l .d) (λ i h k. absurd (omega arith)) (l .inv .1)
-    ∙ sym (tabulated 53 (λ k. getD whole k 0) whole (omega (arith, length-append (st .args .labels .now) (st .args .burst .now))) (λ i h. refl))
+returns : tie.Need-returns
+returns c =
+    let a = c .before .before .before .before .before .before .before .before .args in
+    c .before .put2 .ensures ∙ ap (λ (os : List ℕ). put os 20 (a .burst .now)) (c .before .before .before .before .put .ensures)
+    ∙ put-both (replicate 53 0) (a .labels .now) (a .burst .now) 20 (c .before .before .before .before .before .before .before .before .pre .0) (omega arith)
 
 pub joined-spec : {M : Type 1} → statement M
 joined-spec =
     tie.close
-    (tie.spec
-    Inv-loop
-    μ-loop
-    loop-holds
-    octet-at-requires
-    array-write-d
-    add-j
-    loop-less
-    loop-again
-    returns)
+    (tie.spec slice-aggregate-put put-requires slice-aggregate-put-2 put-requires-2 returns)

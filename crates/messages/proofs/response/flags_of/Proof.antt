@@ -1,47 +1,24 @@
 -- `messages::response::flags_of` meets its contract.
 -- Assumes nothing.
+use mathlib.Core.Path.{sym, _∙_}
+use native.Mathlib.Omega.{arith}
+use lib.Seq.{length-take-le}
 use borrow.Author.Needs.{needs}
-use Rattle.messages.proofs.ResponseParts.{eight-taken}
+use Rattle.messages.proofs.ResponseParts.{flags-are}
 use Rattle.messages.proofs.response.flags_of.Statement.{statement}
 use Rattle.messages.proofs.response.flags_of.Tie as tie
 
-shared-slice-read-t3 : tie.Need-shared-slice-read-t3
-shared-slice-read-t3 c = search needs
+slice-aggregate-put : tie.Need-slice-aggregate-put
+slice-aggregate-put c = search needs
 
-shared-slice-read-t5 : tie.Need-shared-slice-read-t5
-shared-slice-read-t5 c = search needs
+slice-aggregate-put-2 : tie.Need-slice-aggregate-put-2
+slice-aggregate-put-2 c = sym (length-take-le 8 (c .before .before .before .args .block .now) (omega arith))
 
-shared-slice-read-t7 : tie.Need-shared-slice-read-t7
-shared-slice-read-t7 c = search needs
-
-shared-slice-read-t9 : tie.Need-shared-slice-read-t9
-shared-slice-read-t9 c = search needs
-
-shared-slice-read-t11 : tie.Need-shared-slice-read-t11
-shared-slice-read-t11 c = search needs
-
-shared-slice-read-t13 : tie.Need-shared-slice-read-t13
-shared-slice-read-t13 c = search needs
-
-shared-slice-read-t15 : tie.Need-shared-slice-read-t15
-shared-slice-read-t15 c = search needs
-
-shared-slice-read-t17 : tie.Need-shared-slice-read-t17
-shared-slice-read-t17 c = search needs
+put-requires : tie.Need-put-requires
+put-requires c κs = search needs
 
 returns : tie.Need-returns
-returns c = eight-taken (c .before .before .before .before .before .before .before .before .args .block .now) (c .before .before .before .before .before .before .before .before .pre)
+returns c = c .before .put .ensures ∙ flags-are (c .before .before .before .before .before .args .block .now) (c .before .before .before .before .before .pre)
 
 pub flags-of-spec : {M : Type 1} → statement M
-flags-of-spec =
-    tie.close
-    (tie.spec
-    shared-slice-read-t3
-    shared-slice-read-t5
-    shared-slice-read-t7
-    shared-slice-read-t9
-    shared-slice-read-t11
-    shared-slice-read-t13
-    shared-slice-read-t15
-    shared-slice-read-t17
-    returns)
+flags-of-spec = tie.close (tie.spec slice-aggregate-put slice-aggregate-put-2 put-requires returns)

@@ -1,7 +1,11 @@
 -- `messages::response::sack_data` meets its contract.
 -- Assumes nothing.
+use mathlib.Core.Path.{ap, _∙_}
+use mathlib.Core.List.{List}
+use Prim.Native.Nat.{ℕ}
 use native.Mathlib.Omega.{arith}
 use borrow.Author.Needs.{needs}
+use Rattle.foundation.specs.Octets.{put}
 use Rattle.messages.proofs.ResponseParts.{data-is}
 use Rattle.messages.proofs.response.sack_data.Statement.{statement}
 use Rattle.messages.proofs.response.sack_data.Tie as tie
@@ -12,44 +16,30 @@ slice-aggregate-message-octets c = search needs
 message-octets-requires : tie.Need-message-octets-requires
 message-octets-requires c κs = search needs
 
-array-read-t9 : tie.Need-array-read-t9
-array-read-t9 c = search needs
+slice-aggregate-put : tie.Need-slice-aggregate-put
+slice-aggregate-put c = search needs
 
-array-read-t12 : tie.Need-array-read-t12
-array-read-t12 c = search needs
+slice-aggregate-put-2 : tie.Need-slice-aggregate-put-2
+slice-aggregate-put-2 c = search needs
 
-array-read-t15 : tie.Need-array-read-t15
-array-read-t15 c = search needs
+put-requires : tie.Need-put-requires
+put-requires c κs = search needs
 
-array-read-t18 : tie.Need-array-read-t18
-array-read-t18 c = search needs
+slice-aggregate-put-3 : tie.Need-slice-aggregate-put-3
+slice-aggregate-put-3 c = search needs
 
-array-read-t21 : tie.Need-array-read-t21
-array-read-t21 c = search needs
+slice-aggregate-put-4 : tie.Need-slice-aggregate-put-4
+slice-aggregate-put-4 c = search needs
 
-array-read-t24 : tie.Need-array-read-t24
-array-read-t24 c = search needs
-
-array-read-t27 : tie.Need-array-read-t27
-array-read-t27 c = search needs
-
-array-read-t30 : tie.Need-array-read-t30
-array-read-t30 c = search needs
-
-array-read-t33 : tie.Need-array-read-t33
-array-read-t33 c = search needs
-
-array-read-t36 : tie.Need-array-read-t36
-array-read-t36 c = search needs
-
-array-read-t39 : tie.Need-array-read-t39
-array-read-t39 c = search needs
-
-array-read-t42 : tie.Need-array-read-t42
-array-read-t42 c = search needs
+put-requires-2 : tie.Need-put-requires-2
+put-requires-2 c κs = search needs
 
 returns : tie.Need-returns
-returns c = data-is (c .before .before .args .t1) _ (omega arith) (c .message-octets .ensures .0)
+returns c =
+    let p = c .before .before .before .before .before in
+    let k = p .before .before .before in
+    c .before .put2 .ensures ∙ ap (λ (os : List ℕ). put os 8 (k .message-octets .result)) (p .put .ensures)
+    ∙ data-is (k .before .before .args .t1) _ (omega arith) (k .message-octets .ensures .0)
 
 pub sack-data-spec : {M : Type 1} → statement M
 sack-data-spec =
@@ -57,16 +47,10 @@ sack-data-spec =
     (tie.spec
     slice-aggregate-message-octets
     message-octets-requires
-    array-read-t9
-    array-read-t12
-    array-read-t15
-    array-read-t18
-    array-read-t21
-    array-read-t24
-    array-read-t27
-    array-read-t30
-    array-read-t33
-    array-read-t36
-    array-read-t39
-    array-read-t42
+    slice-aggregate-put
+    slice-aggregate-put-2
+    put-requires
+    slice-aggregate-put-3
+    slice-aggregate-put-4
+    put-requires-2
     returns)

@@ -1,59 +1,32 @@
--- `packets::block::data_of` meets its contract. The loop's invariant: i data octets are taken, and zeros stand behind them.
+-- `packets::block::data_of` meets its contract.
 -- Assumes nothing.
-use mathlib.Core.Path.{refl}
-use Prim.Native.Nat.{_+_, _-_, _≤_}
-use native.Mathlib.Omega.{arith}
-use lib.ListN.{getD}
-use Rattle.foundation.proofs.Filling.{Filled, filled-start, filled-more}
+use mathlib.Core.Path.{_∙_}
+use borrow.Author.Needs.{needs}
 use Rattle.packets.proofs.BlockReading.{data-is}
 use Rattle.packets.proofs.block.data_of.Statement.{statement}
 use Rattle.packets.proofs.block.data_of.Tie as tie
 
-abbrev Inv-loop : tie.InvT-loop
-Inv-loop octets os₀ i₀ os i = (i ≤ 10) × Filled 10 (λ k. getD octets (k + 2) 0) i os
+slice-aggregate-put : tie.Need-slice-aggregate-put
+slice-aggregate-put c = search needs
 
-abbrev μ-loop : tie.MeasureT-loop
-μ-loop octets os₀ i₀ os i = 10 - i
+sub-put : tie.Need-sub-put
+sub-put c = search needs
 
-loop-holds : tie.Need-loop-holds Inv-loop μ-loop
-loop-holds c = (omega arith, filled-start 10 _ 0 (λ i h. absurd (omega arith)))
+part-put-start : tie.Need-part-put-start
+part-put-start c = search needs
 
-add-os : tie.Need-add-os Inv-loop μ-loop
-add-os c = omega arith
+part-put-end : tie.Need-part-put-end
+part-put-end c = search needs
 
-shared-slice-read-os : tie.Need-shared-slice-read-os Inv-loop μ-loop
-shared-slice-read-os c = omega arith
+put-requires : tie.Need-put-requires
+put-requires c κs = search needs
 
-array-write-os : tie.Need-array-write-os Inv-loop μ-loop
-array-write-os c = omega arith
-
-add-i : tie.Need-add-i Inv-loop μ-loop
-add-i c = omega arith
-
-loop-less : tie.Need-loop-less Inv-loop μ-loop
-loop-less c = omega arith
-
-loop-again : tie.Need-loop-again Inv-loop μ-loop
-loop-again c =
-    let l = c .before .before .loop in
-    (omega arith, filled-more 10 _ (l .i) _ _ (omega arith) refl (l .inv .1))
-
-returns : tie.Need-returns Inv-loop μ-loop
+returns : tie.Need-returns
 returns c =
-    let l = c .before .loop in
-    data-is (c .before .before .args .octets .now) (c .before .before .pre) (l .i) _ (omega arith) (l .inv .1)
+    let a = c .before .before .before .before .before in
+    c .before .put .ensures ∙ data-is (a .args .octets .now) (a .pre)
 
 pub data-of-spec : {M : Type 1} → statement M
 data-of-spec =
     tie.close
-    (tie.spec
-    Inv-loop
-    μ-loop
-    loop-holds
-    add-os
-    shared-slice-read-os
-    array-write-os
-    add-i
-    loop-less
-    loop-again
-    returns)
+    (tie.spec slice-aggregate-put sub-put part-put-start part-put-end put-requires returns)

@@ -9,16 +9,16 @@ use Rattle.packets.proofs.header.read_fields.Tie as tie
 read-common-requires : tie.Need-read-common-requires
 read-common-requires c κs = search needs
 
-shared-slice-read-last : tie.Need-shared-slice-read-last
-shared-slice-read-last c = search needs
+at-requires : tie.Need-at-requires
+at-requires c κs = search needs
 
-shared-slice-read-match : tie.Need-shared-slice-read-match
-shared-slice-read-match c = search needs
+at-requires-2 : tie.Need-at-requires-2
+at-requires-2 c κs = search needs
 
 returns : tie.Need-returns
 returns c =
     let h = c .before .before .before .before .before .args .h .now in
-    format-1 h _ (c .before .before .before .read-common .ensures) _ _ _ (omega arith) (omega (arith, c .before .shared-slice-known3 .given 9)) (omega arith) (omega arith)
+    format-1 h _ (c .before .before .before .read-common .ensures) _ _ _ (omega arith) (omega arith) (omega arith) (omega arith)
 
 returns-2 : tie.Need-returns-2
 returns-2 c =
@@ -28,16 +28,8 @@ returns-2 c =
 returns-3 : tie.Need-returns-3
 returns-3 c =
     let h = c .before .before .before .before .before .args .h .now in
-    format-3 h _ (c .before .before .before .read-common .ensures) _ _ _ (λ e. omega arith) (λ e. omega arith) (omega (arith, c .before .shared-slice-known3 .given 9)) (omega arith)
-    (omega arith)
+    format-3 h _ (c .before .before .before .read-common .ensures) _ _ _ (λ e. omega arith) (λ e. omega arith) (omega arith) (omega arith) (omega arith)
 
 pub read-fields-spec : {M : Type 1} → statement M
 read-fields-spec =
-    tie.close
-    (tie.spec
-    read-common-requires
-    shared-slice-read-last
-    shared-slice-read-match
-    returns
-    returns-2
-    returns-3)
+    tie.close (tie.spec read-common-requires at-requires at-requires-2 returns returns-2 returns-3)
