@@ -1,5 +1,4 @@
 pub mod Forms
-pub mod Lists
 pub mod Records
 pub mod Claims
 pub mod Lines

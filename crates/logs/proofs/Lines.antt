@@ -1,48 +1,59 @@
--- A line in octets: its size, and what stands where.
+-- A line in octets: what is written one behind the other, and what is said in it.
 -- Assumes nothing.
 use mathlib.Core.Path.{_≡_, refl, sym, ap, _∙_}
 use mathlib.Core.Bool.{cond}
 use mathlib.Core.Logic.{_≢_}
 use mathlib.Core.List.{List, [], _∷_, _++_}
-use Prim.Native.Nat.{ℕ, suc, _+_, _*_, _-_, _/_, _%_, _≤_}
+use Prim.Native.Nat.{ℕ, zero, suc, _+_, _*_, _-_, _/_, _%_, _≤_}
+use native.Mathlib.Nat.{zero-sub, suc-sub-suc}
 use native.Mathlib.Omega.{arith}
 use lib.Dec.{ltb}
-use lib.ListN.{length, getD, take, replicate, length-append, length-replicate}
-use lib.Seq.{getD-append-add, take-all, take-length}
+use lib.ListN.{length, take, drop, replicate, length-append, length-replicate}
+use lib.Seq.{take-all, take-length}
 use borrow.Author.Tests.{eq-eqb, ne-eqb, ltb-true, ltb-false}
 use Rattle.messages.specs.declared.response.ResponseOctets.{ResponseOctets}
 use Rattle.transactions.specs.Answers.{refused, response, responseSaid}
-use Rattle.foundation.proofs.Filling.{getD-padded}
+use Rattle.foundation.specs.Octets.{put}
+use Rattle.foundation.proofs.Copying.{Grown, grown-none, grown-put, grown-all}
 use Rattle.foundation.proofs.Tests.{either}
 use Rattle.receiver.specs.Events.{said}
 use Rattle.receiver.specs.declared.event.Answer.{Answer}
 use Rattle.stored.specs.Stored.{storedBlock}
 use Rattle.logs.specs.Log.{answer, lineSize, lineOctets, lineIn}
 
-length-padded : (os : List ℕ) (size : ℕ) → length os ≤ size → length (os ++ replicate (size - length os) 0) ≡ size
-length-padded os size h = rw (length-append, length-replicate) (omega arith)
+-- zeros behind the contents
+zeros-behind : (n k : ℕ) → take (n - k) (drop k (replicate {A = ℕ} n 0)) ≡ replicate (n - k) 0
+zeros-behind zero k = rw (zero-sub k)
+zeros-behind (suc n) zero =
+    let e : suc n - 0 ≡ suc n = omega arith in
+    rw e (take-all (suc n) (replicate {A = ℕ} (suc n) 0) (omega (arith, length-replicate {A = ℕ} (suc n) 0)))
+zeros-behind (suc n) (suc k) = rw (suc-sub-suc n k) (zeros-behind n k)
 
-pub length-line : (code : ℕ) (os : List ℕ) → length os ≤ 2 * storedBlock → length (lineOctets code os) ≡ lineSize
-unfolding lineOctets
-length-line code os h = ap (λ (n : ℕ). suc (suc (suc n))) (length-padded os (2 * storedBlock) h)
+-- the octets before the contents
+abbrev head : ℕ → List ℕ → List ℕ
+head code os = code ∷ length os / 256 ∷ length os % 256 ∷ []
 
-pub line-code : (code : ℕ) (os : List ℕ) → getD (lineOctets code os) 0 0 ≡ code
-unfolding lineOctets
-line-code code os = refl
+module _ (code : ℕ) (os : List ℕ) (small : length os ≤ 2 * storedBlock) where
+  abbrev zeros : List ℕ
+  zeros = take (2 * storedBlock - length os) (drop (length os) (replicate (2 * storedBlock) 0))
 
-pub line-high : (code : ℕ) (os : List ℕ) → getD (lineOctets code os) 1 0 ≡ length os / 256
-unfolding lineOctets
-line-high code os = refl
+  length-zeros : length zeros ≡ 2 * storedBlock - length os
+  length-zeros = ap length (zeros-behind (2 * storedBlock) (length os)) ∙ length-replicate {A = ℕ} (2 * storedBlock - length os) 0
 
-pub line-low : (code : ℕ) (os : List ℕ) → getD (lineOctets code os) 2 0 ≡ length os % 256
-unfolding lineOctets
-line-low code os = refl
+  length-front : length (head code os ++ os) ≡ 3 + length os
+  length-front = length-append (head code os) os
 
-pub line-contents : (code : ℕ) (os : List ℕ) (i : ℕ) → getD (lineOctets code os) (3 + i) 0 ≡ getD os i 0
-unfolding lineOctets
-line-contents code os i =
-    getD-append-add (code ∷ length os / 256 ∷ length os % 256 ∷ []) (os ++ replicate (lineSize - 3 - length os) 0) i 0
-    ∙ getD-padded os (lineSize - 3 - length os) i
+  -- head, contents and zeros, written one behind the other
+  pub line-written : (d d1 d2 d3 : List ℕ) → length d ≡ lineSize → d1 ≡ put d 0 (head code os) → d2 ≡ put d1 3 os
+      → d3 ≡ put d2 (3 + length os) zeros → d3 ≡ lineOctets code os
+  unfolding lineOctets
+  line-written d d1 d2 d3 room e1 e2 e3 =
+      let g1 : Grown (head code os) d d1 = e1 ∙ grown-put d [] (head code os) d 0 refl (omega arith) (grown-none d) in
+      let g2 : Grown (head code os ++ os) d d2 = e2 ∙ grown-put d (head code os) os d1 3 refl (omega arith) g1 in
+      let g3 : Grown (head code os ++ os ++ zeros) d d3 =
+      e3 ∙ grown-put d (head code os ++ os) zeros d2 (3 + length os) length-front (omega (arith, length-zeros)) g2 in
+      grown-all d (head code os ++ os ++ zeros) d3 (length-append (head code os ++ os) zeros ∙ omega (arith, length-front, length-zeros)) g3
+      ∙ ap (λ (l : List ℕ). head code os ++ os ++ l) (zeros-behind (2 * storedBlock) (length os))
 
 -- ---- what is said
 

@@ -9,14 +9,16 @@ use native.Mathlib.Omega.{arith}
 use native.Mathlib.Nat.{add-zero, le-refl}
 use lib.Dec.{eqb, ltb}
 use lib.ListN.{length, getD, take, drop, length-drop, drop-of-length-le}
-use lib.Seq.{getD-drop, drop-drop}
+use lib.Seq.{getD-drop, drop-drop, drop-at, take-add, length-take-le}
 use borrow.Author.Tests.{eq-eqb, ne-eqb, lt-ltb, le-ltb, ltb-true, ltb-false}
 use Rattle.foundation.specs.Order.{all}
 use Rattle.foundation.proofs.Tests.{either}
 use Rattle.logs.specs.Log.{Record, none, recordOf, recordEnd, recordsFrom, recordsOf}
 use Rattle.logs.specs.Parts.{Cuts}
 use Rattle.logs.specs.declared.replaying.Cut.{Cut}
-use Rattle.logs.proofs.Lists.{drop-take}
+
+drop-take : (k n : ℕ) (os : List ℕ) → k ≤ length os → drop k (take (k + n) os) ≡ take n (drop k os)
+drop-take k n os h = rw (take-add k n os) (drop-at (take k os) (take n (drop k os)) k (length-take-le k os h))
 
 pub none-in-none : (k : ℕ) → recordsFrom k [] ≡ []
 unfolding recordsFrom

@@ -5,7 +5,7 @@ ghost use mathlib.Core.Bool.{true, cond};
 ghost use mathlib.Core.List.{_++_};
 ghost use Prim.Native.Nat.{_+_, _*_, _≤_};
 ghost use lib.Dec.{ltb};
-ghost use lib.ListN.{length, getD};
+ghost use lib.ListN.{length};
 ghost use Rattle.transactions.specs.Answers.{refused, responseSaid};
 ghost use Rattle.receiver_state.specs.Receiver.{storeSize, receiverGood};
 ghost use Rattle.receiver.specs.Events.{said};
@@ -42,30 +42,17 @@ const RESPONSE: u8 = 6;
 
 const RESTORED: u8 = 7;
 
-// Octet i, 0 past the end.
-fn octet(octets: &[u8], i: usize) -> u8
-    ensures { λ r. ⌜ r ≡ getD (now (octets .entry)) i 0 ⌝ }
-{
-    if i < octets.len() {
-        return octets[i];
-    }
-    0
-}
-
 // Writes a line of this code and these contents.
 fn put(line: &mut [u8], code: u8, contents: &[u8])
     requires { ⌜ (length (now line) ≡ lineSize) × (length (now contents) ≤ 2 * storedBlock) ⌝ }
     ensures { λ r. ⌜ now (line .exit) ≡ lineOctets code (now (contents .entry)) ⌝ }
 {
     let n = contents.len();
-    line[0] = code;
-    line[1] = (n / 256 % 256) as u8;
-    line[2] = (n % 256) as u8;
-    let mut i: usize = 0;
-    while i < CONTENTS {
-        line[3 + i] = octet(contents, i);
-        i += 1;
-    }
+    let head = [code, (n / 256) as u8, (n % 256) as u8];
+    let zeros = [0u8; CONTENTS];
+    foundation::octets::put(line, 0, &head);
+    foundation::octets::put(line, 3, contents);
+    foundation::octets::put(line, 3 + n, &zeros[n..]);
 }
 
 // The line of a refusal.
@@ -110,12 +97,8 @@ fn both(header: [u8; 12], block: [u8; 12]) -> [u8; 24]
     ensures { λ r. ⌜ r ≡ header ++ block ⌝ }
 {
     let mut octets = [0u8; 24];
-    let mut i: usize = 0;
-    while i < 12 {
-        octets[i] = header[i];
-        octets[12 + i] = block[i];
-        i += 1;
-    }
+    foundation::octets::put(&mut octets, 0, &header);
+    foundation::octets::put(&mut octets, 12, &block);
     octets
 }
 
@@ -166,18 +149,6 @@ fn record_block(rx: Receiver, store: &mut [u8], octets: &[u8], line: &mut [u8]) 
     step.receiver
 }
 
-// The octets become those of the store.
-fn put_store(store: &mut [u8], octets: &[u8])
-    requires { ⌜ (length (now store) ≡ storeSize) × (length (now octets) ≡ storeSize) ⌝ }
-    ensures { λ r. ⌜ now (store .exit) ≡ now (octets .entry) ⌝ }
-{
-    let mut i: usize = 0;
-    while i < STORE {
-        store[i] = octets[i];
-        i += 1;
-    }
-}
-
 // A restart: the stamp of two octets, and what the store holds before the restore.
 fn record_restart(rx: Receiver, store: &mut [u8], octets: &[u8], line: &mut [u8]) -> Receiver
     requires { ⌜ (receiverGood rx ≡ true) × (length (now line) ≡ lineSize) × (length (now store) ≡ storeSize)
@@ -189,7 +160,7 @@ fn record_restart(rx: Receiver, store: &mut [u8], octets: &[u8], line: &mut [u8]
     let mut form = [0u8; FORM];
     stored::saving::save(rx, store, octets[0], octets[1], &mut form);
     put(line, RESTORED, &form);
-    put_store(store, &octets[2..]);
+    foundation::octets::put(store, 0, &octets[2..]);
     let fresh = receiver_state::fresh_for(rx.own);
     let next = fresh.receiver;
     let restored = stored::restoring::restore(next, &form, store);

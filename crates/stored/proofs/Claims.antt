@@ -11,4 +11,4 @@ pub restores-law : (rx : Receiver) (store : List ℕ) (s0 s1 : ℕ) → Savable 
 restores-law = restores
 
 pub claims : StoredClaims
-claims = record { restores = restores; saves-back = saved-back }
+claims = record { restores = restores; saves-back = λ rx form store small none. saved-back rx form store none small }

@@ -4,46 +4,99 @@ use mathlib.Core.Path.{_≡_, refl, sym, ap, _∙_}
 use mathlib.Core.Bool.{Bool, true, false, cond}
 use mathlib.Core.List.{List, [], _∷_, _++_}
 use mathlib.Core.Logic.{_≢_}
-use Prim.Native.Nat.{ℕ, _*_, _-_}
+use Prim.Native.Nat.{ℕ, _+_, _*_, _-_, _%_}
 use native.Mathlib.Omega.{arith}
 use borrow.Author.Tests.{eq-eqb, ne-eqb, eqb-true}
 use lib.Dec.{eqb}
 use lib.ListN.{length, getD, take, drop, length-drop}
 use lib.Seq.{take-all, length-take-le}
+use Rattle.addresses.specs.Octets.{numberAt}
 use Rattle.foundation.specs.Order.{firstFailed, all}
-use Rattle.foundation.proofs.Tests.{last}
+use Rattle.foundation.proofs.Tests.{last, not-true, choose}
 use Rattle.checks.specs.Checks.{headerGood}
-use Rattle.foundation.proofs.Order.{all-fails, passed}
+use Rattle.foundation.proofs.Order.{all-nil, all-cons, all-at, all-fails, passed}
+use Rattle.packets.proofs.Octets.{Octets}
 use Rattle.receiver_state.specs.Receiver.{storeSize, receiverGood}
 use Rattle.receiver_state.specs.declared.Receiver.{Receiver}
 use Rattle.stored.specs.Stored.{storedBlock, zerosAt, zeroPart, saved, saveNumber, afterSave, block0, block1, receiverIn, storeIn, zerosFrom, clear, layoutTests, restoreTests, restoreNumber, restored, afterRestore}
-use Rattle.stored.specs.Parts.{marked, checked, layoutKept}
+use Rattle.stored.specs.Parts.{usable, marked, checked, layoutKept}
 use Rattle.stored.specs.declared.restoring.Restored.{Restored}
 
--- ---- the rules of the layout
+-- ---- tests that have one number
 
--- tests that have one number
-abbrev alike : List Bool → List (Bool × ℕ)
-alike [] = []
-alike (t ∷ ts) = (t, 18) ∷ alike ts
+abbrev alike : ℕ → List Bool → List (Bool × ℕ)
+alike n [] = []
+alike n (t ∷ ts) = (t, n) ∷ alike n ts
 
-alike-first : (ts : List Bool) (us : List (Bool × ℕ)) → firstFailed (alike ts ++ us) ≡ cond (all ts) (firstFailed us) 18
+alike-first : (n : ℕ) (ts : List Bool) (us : List (Bool × ℕ)) → firstFailed (alike n ts ++ us) ≡ cond (all ts) (firstFailed us) n
 unfolding firstFailed all
-alike-first [] us = refl
-alike-first (true ∷ ts) us = alike-first ts us
-alike-first (false ∷ ts) us = refl
-
-alike-all : (ts : List Bool) → eqb (firstFailed (alike ts)) 0 ≡ all ts
-unfolding firstFailed all
-alike-all [] = refl
-alike-all (true ∷ ts) = alike-all ts
-alike-all (false ∷ ts) = refl
+alike-first n [] us = refl
+alike-first n (true ∷ ts) us = alike-first n ts us
+alike-first n (false ∷ ts) us = refl
 
 all-append : (ts us : List Bool) → all (ts ++ us) ≡ cond (all ts) (all us) false
 unfolding all
 all-append [] us = refl
 all-append (true ∷ ts) us = all-append ts us
 all-append (false ∷ ts) us = refl
+
+-- ---- receivers and sizes
+
+module _ (rx : Receiver) (store form : ℕ) where
+  pub usable-sizes : usable rx store form ≡ true → (store ≡ storeSize) × (form ≡ 2 * storedBlock)
+  unfolding usable
+  usable-sizes e = (eqb-true store storeSize (all-at _ 1 e), eqb-true form (2 * storedBlock) (all-at _ 2 e))
+
+  pub not-usable : (i : ℕ) → getD (receiverGood rx ∷ eqb store storeSize ∷ eqb form (2 * storedBlock) ∷ []) i true ≡ false → usable rx store form ≡ false
+  unfolding usable
+  not-usable = all-fails _
+
+  pub form-usable : receiverGood rx ≡ true → store ≡ storeSize → eqb form (2 * storedBlock) ≡ usable rx store form
+  unfolding usable all
+  form-usable g r = sym (rw (g, eq-eqb store storeSize r) (sym (last _)))
+
+  usable-first : (us : List (Bool × ℕ))
+      → firstFailed ((receiverGood rx, 1) ∷ (eqb store storeSize, 1) ∷ (eqb form (2 * storedBlock), 1) ∷ us) ≡ cond (usable rx store form) (firstFailed us) 1
+  unfolding usable
+  usable-first us = alike-first 1 (receiverGood rx ∷ eqb store storeSize ∷ eqb form (2 * storedBlock) ∷ []) us
+
+-- ---- the rules of the layout
+
+-- two tests of which each is passed where the other is
+same-test : (s t : Bool) → (s ≡ true → t ≡ true) → (t ≡ true → s ≡ true) → s ≡ t
+same-test true t f g = sym (f refl)
+same-test false true f g = g refl
+same-test false false f g = refl
+
+-- the starts of both blocks as numbers
+module _ (a b : List ℕ) (small-a : Octets a) (small-b : Octets b) (n m : ℕ) (is-n : n ≡ numberAt a 0) (is-m : m ≡ numberAt b 0) where
+  marks-are : marked a b ≡ true → (n ≡ 16777216 + n % 65536) × (m ≡ 16842752 + n % 65536)
+  unfolding marked
+  marks-are e =
+      let a0 : getD a 0 0 ≡ 1 = eqb-true _ _ (all-at _ 0 e) in
+      let a1 : getD a 1 0 ≡ 0 = eqb-true _ _ (all-at _ 1 e) in
+      let b0 : getD b 0 0 ≡ 1 = eqb-true _ _ (all-at _ 2 e) in
+      let b1 : getD b 1 0 ≡ 1 = eqb-true _ _ (all-at _ 3 e) in
+      let s0 : getD a 2 0 ≡ getD b 2 0 = eqb-true _ _ (all-at _ 4 e) in
+      let s1 : getD a 3 0 ≡ getD b 3 0 = eqb-true _ _ (all-at _ 5 e) in
+      (omega (arith, small-a 2, small-a 3), omega (arith, small-a 2, small-a 3))
+
+  pub not-marked : n ≢ 16777216 + n % 65536 → false ≡ marked a b
+  not-marked d = sym (not-true (marked a b) (λ e. d (marks-are e .0)))
+
+  pub marked-by : n ≡ 16777216 + n % 65536 → eqb m (16842752 + n % 65536) ≡ marked a b
+  unfolding marked
+  marked-by h = same-test (eqb m (16842752 + n % 65536)) (marked a b) to (λ e. eq-eqb m (16842752 + n % 65536) (marks-are e .1))
+    where
+      to : eqb m (16842752 + n % 65536) ≡ true → marked a b ≡ true
+      to e =
+          let k : m ≡ 16842752 + n % 65536 = eqb-true m (16842752 + n % 65536) e in
+          all-cons _ (eq-eqb (getD a 0 0) 1 (omega (arith, small-a 0, small-a 1, small-a 2, small-a 3)))
+          (all-cons _ (eq-eqb (getD a 1 0) 0 (omega (arith, small-a 0, small-a 1, small-a 2, small-a 3)))
+          (all-cons _ (eq-eqb (getD b 0 0) 1 (omega (arith, small-b 0, small-b 1, small-b 2, small-b 3)))
+          (all-cons _ (eq-eqb (getD b 1 0) 1 (omega (arith, small-b 0, small-b 1, small-b 2, small-b 3)))
+          (all-cons _ (eq-eqb (getD a 2 0) (getD b 2 0) (omega (arith, small-a 0, small-a 1, small-a 2, small-a 3, small-b 0, small-b 1, small-b 2, small-b 3)))
+          (all-cons _ (eq-eqb (getD a 3 0) (getD b 3 0) (omega (arith, small-a 0, small-a 1, small-a 2, small-a 3, small-b 0, small-b 1, small-b 2, small-b 3))) all-nil)))))
 
 module _ (a b : List ℕ) (rx : Receiver) (store : List ℕ) where
   abbrev marks : List Bool
@@ -54,37 +107,18 @@ module _ (a b : List ℕ) (rx : Receiver) (store : List ℕ) where
   abbrev others : List Bool
   others = receiverGood rx ∷ clear rx store storeSize ∷ zerosFrom b zerosAt zeroPart ∷ checked rx store ∷ []
 
-  tests-alike : layoutTests a b rx store ≡ alike (marks ++ others)
-  unfolding layoutTests checked
-  tests-alike = refl
-
-  marked-all : marked a b ≡ all marks
-  unfolding marked
-  marked-all = alike-all marks
-
-  kept-all : layoutKept a b rx store ≡ all (marks ++ others)
+  pub rule-broken : (i : ℕ) → getD (marked a b ∷ others) i true ≡ false → false ≡ layoutKept a b rx store
   unfolding layoutKept
-  kept-all = ap (λ (ts : List (Bool × ℕ)). eqb (firstFailed ts) 0) tests-alike ∙ alike-all (marks ++ others)
-
-  -- the rules after the marks
-  layout-rest : layoutKept a b rx store ≡ cond (marked a b) (all others) false
-  layout-rest = kept-all ∙ all-append marks others ∙ ap (λ (t : Bool). cond t (all others) false) (sym marked-all)
-
-  pub unmarked : marked a b ≡ false → false ≡ layoutKept a b rx store
-  unmarked e = sym (layout-rest ∙ rw e)
-
-  pub rule-broken : (i : ℕ) → marked a b ≡ true → getD others i true ≡ false → false ≡ layoutKept a b rx store
-  rule-broken i m e = sym (layout-rest ∙ rw m (all-fails others i e))
+  rule-broken i e = sym (all-fails _ i e)
 
   pub last-rule : marked a b ≡ true → receiverGood rx ≡ true → clear rx store storeSize ≡ true → zerosFrom b zerosAt zeroPart ≡ true
       → checked rx store ≡ layoutKept a b rx store
-  unfolding all
-  last-rule m g k z = sym (layout-rest ∙ rw (m, g, k, z) (sym (last (checked rx store))))
+  unfolding layoutKept all
+  last-rule m g k z = sym (rw (m, g, k, z) (sym (last (checked rx store))))
 
   layout-first : (us : List (Bool × ℕ)) → firstFailed (layoutTests a b rx store ++ us) ≡ cond (layoutKept a b rx store) (firstFailed us) 18
-  layout-first us =
-      ap (λ (ts : List (Bool × ℕ)). firstFailed (ts ++ us)) tests-alike ∙ alike-first (marks ++ others) us
-      ∙ ap (λ (t : Bool). cond t (firstFailed us) 18) (sym kept-all)
+  unfolding layoutTests layoutKept marked checked all
+  layout-first us = alike-first 18 (marks ++ others) us ∙ ap (λ (t : Bool). cond t (firstFailed us) 18) (all-append marks others)
 
 -- ---- restoring
 
@@ -106,22 +140,23 @@ block-sizes form e = (
 )
 
 module _ (rx : Receiver) (form store : List ℕ) where
-  -- the tests, with the rules of the layout as one
+  -- the tests, with those of one number as one
   abbrev steps : List ℕ → List ℕ → Receiver → List ℕ → List (Bool × ℕ)
   steps a b r os =
-      (receiverGood rx, 1) ∷ (eqb (length store) storeSize, 1) ∷ (eqb (length form) (2 * storedBlock), 1) ∷ (headerGood 0 a, 17)
-      ∷ (headerGood 0 b, 17) ∷ (layoutKept a b r os, 18) ∷ (eqb (r .own .0) (rx .own .0), 19) ∷ []
+      (usable rx (length store) (length form), 1) ∷ (headerGood 0 a, 17) ∷ (headerGood 0 b, 17) ∷ (layoutKept a b r os, 18)
+      ∷ (eqb (r .own .0) (rx .own .0), 19) ∷ []
 
   number-steps : restoreNumber rx form store ≡ firstFailed (steps (block0 form) (block1 form) (receiverIn (block0 form)) (storeIn (block0 form) (block1 form)))
   unfolding restoreNumber restoreTests firstFailed
-  number-steps = rw (layout-first (block0 form) (block1 form) (receiverIn (block0 form)) (storeIn (block0 form) (block1 form)))
+  number-steps =
+      let a = block0 form in
+      let b = block1 form in
+      usable-first rx (length store) (length form)
+      ((headerGood 0 a, 17) ∷ (headerGood 0 b, 17) ∷ layoutTests a b (receiverIn a) (storeIn a b) ++ (eqb (receiverIn a .own .0) (rx .own .0), 19) ∷ [])
+      ∙ rw (layout-first a b (receiverIn a) (storeIn a b))
 
   pub sizes : restoreNumber rx form store ≡ 0 → (length store ≡ storeSize) × (length form ≡ 2 * storedBlock)
-  sizes e =
-      let p = passed (receiverGood rx) 0 _ (sym number-steps ∙ e) in
-      let q = passed (eqb (length store) storeSize) 0 _ (p .1) in
-      let r = passed (eqb (length form) (2 * storedBlock)) 0 _ (q .1) in
-      (eqb-true _ _ (q .0), eqb-true _ _ (r .0))
+  sizes e = usable-sizes rx (length store) (length form) (passed (usable rx (length store) (length form)) 0 _ (sym number-steps ∙ e) .0)
 
   pub restored-refused : (n : ℕ) → n ≡ restoreNumber rx form store → n ≢ 0
       → (_≡_ {A = Restored} (record { number = n; receiver = rx }) (restored rx form store)) × (store ≡ afterRestore rx form store)
@@ -129,54 +164,37 @@ module _ (rx : Receiver) (form store : List ℕ) where
   restored-refused n e d = let f : eqb (restoreNumber rx form store) 0 ≡ false = ne-eqb _ _ (λ z. d (e ∙ z)) in (rw (f, ← e), rw f)
 
   -- the numbers in their order
-  pub impossible : receiverGood rx ≡ false → 1 ≡ restoreNumber rx form store
+  pub number-1 : usable rx (length store) (length form) ≡ false → 1 ≡ restoreNumber rx form store
   unfolding firstFailed
-  impossible g = sym (number-steps ∙ rw g)
+  number-1 u = sym (number-steps ∙ rw u)
 
-  module _ (good : receiverGood rx ≡ true) where
-    pub other-store : length store ≢ storeSize → 1 ≡ restoreNumber rx form store
+  module _ (u : usable rx (length store) (length form) ≡ true) (a b : List ℕ) (is-a : a ≡ block0 form) (is-b : b ≡ block1 form) where
+    -- the tests behind that
+    checks : restoreNumber rx form store ≡ firstFailed (drop 1 (steps a b (receiverIn a) (storeIn a b)))
     unfolding firstFailed
-    other-store d = sym (number-steps ∙ rw (good, ne-eqb (length store) storeSize d))
+    checks = number-steps ∙ rw (u, is-a, is-b)
 
-    module _ (room : length store ≡ storeSize) where
-      pub other-form : length form ≢ 2 * storedBlock → 1 ≡ restoreNumber rx form store
+    pub check0-bad : headerGood 0 a ≡ false → 17 ≡ restoreNumber rx form store
+    unfolding firstFailed
+    check0-bad h = sym (checks ∙ rw h)
+
+    module _ (h0 : headerGood 0 a ≡ true) where
+      pub check1-bad : headerGood 0 b ≡ false → 17 ≡ restoreNumber rx form store
       unfolding firstFailed
-      other-form d = sym (number-steps ∙ rw (good, eq-eqb (length store) storeSize room, ne-eqb (length form) (2 * storedBlock) d))
+      check1-bad h = sym (checks ∙ rw (h0, h))
 
-      module _ (size : length form ≡ 2 * storedBlock) (a b : List ℕ) (is-a : a ≡ block0 form) (is-b : b ≡ block1 form) where
-        -- the tests behind those of the sizes
-        checks : restoreNumber rx form store ≡ firstFailed (drop 3 (steps a b (receiverIn a) (storeIn a b)))
+      module _ (h1 : headerGood 0 b ≡ true) (r : Receiver) (os : List ℕ) (is-r : r ≡ receiverIn a) (is-os : os ≡ storeIn a b) where
+        rules : restoreNumber rx form store ≡ firstFailed (drop 3 (steps a b r os))
         unfolding firstFailed
-        checks =
-            number-steps
-            ∙ rw (good, eq-eqb (length store) storeSize room, eq-eqb (length form) (2 * storedBlock) size, is-a, is-b)
+        rules = checks ∙ rw (h0, h1, is-r, is-os)
 
-        pub check0-bad : headerGood 0 a ≡ false → 17 ≡ restoreNumber rx form store
+        pub layout-broken : layoutKept a b r os ≡ false → 18 ≡ restoreNumber rx form store
         unfolding firstFailed
-        check0-bad h = sym (checks ∙ rw h)
+        layout-broken k = sym (rules ∙ rw k)
 
-        module _ (h0 : headerGood 0 a ≡ true) where
-          pub check1-bad : headerGood 0 b ≡ false → 17 ≡ restoreNumber rx form store
-          unfolding firstFailed
-          check1-bad h = sym (checks ∙ rw (h0, h))
-
-          module _ (h1 : headerGood 0 b ≡ true) (r : Receiver) (os : List ℕ) (is-r : r ≡ receiverIn a) (is-os : os ≡ storeIn a b) where
-            rules : restoreNumber rx form store ≡ firstFailed (drop 5 (steps a b r os))
-            unfolding firstFailed
-            rules = checks ∙ rw (h0, h1, is-r, is-os)
-
-            pub layout-broken : layoutKept a b r os ≡ false → 18 ≡ restoreNumber rx form store
-            unfolding firstFailed
-            layout-broken k = sym (rules ∙ rw k)
-
-            module _ (k : layoutKept a b r os ≡ true) where
-              pub other-address : r .own .0 ≢ rx .own .0 → 19 ≡ restoreNumber rx form store
-              unfolding firstFailed
-              other-address d = sym (rules ∙ rw (k, ne-eqb (r .own .0) (rx .own .0) d))
-
-              pub same-address : r .own .0 ≡ rx .own .0 → 0 ≡ restoreNumber rx form store
-              unfolding firstFailed
-              same-address e = sym (rules ∙ rw (k, eq-eqb (r .own .0) (rx .own .0) e))
+        pub by-address : layoutKept a b r os ≡ true → cond (eqb (r .own .0) (rx .own .0)) 0 19 ≡ restoreNumber rx form store
+        unfolding firstFailed
+        by-address k = sym (rules ∙ rw k)
 
   pub restored-taken : restoreNumber rx form store ≡ 0 → (a b : List ℕ) (r : Receiver) (os : List ℕ) → a ≡ block0 form → b ≡ block1 form
       → r ≡ receiverIn a → os ≡ storeIn a b
@@ -191,26 +209,14 @@ module _ (rx : Receiver) (store form : List ℕ) (s0 s1 : ℕ) where
   abbrev Saved : ℕ → List ℕ → Type 0
   Saved n m = (n ≡ saveNumber rx store form) × (m ≡ afterSave rx store s0 s1 form)
 
-  refused : saveNumber rx store form ≡ 1 → Saved 1 form
+  number-by : saveNumber rx store form ≡ choose (usable rx (length store) (length form)) 0 1
+  unfolding saveNumber firstFailed
+  number-by = usable-first rx (length store) (length form) []
+
+  pub save-refused : usable rx (length store) (length form) ≡ false → Saved 1 form
   unfolding afterSave
-  refused e = (sym e, rw e)
+  save-refused u = (sym (number-by ∙ rw u), rw (number-by, u))
 
-  pub save-impossible : receiverGood rx ≡ false → Saved 1 form
-  save-impossible g = refused (unfold saveNumber firstFailed in rw g)
-
-  module _ (good : receiverGood rx ≡ true) where
-    pub save-other-store : length store ≢ storeSize → Saved 1 form
-    save-other-store d = refused (unfold saveNumber firstFailed in rw (good, ne-eqb (length store) storeSize d))
-
-    module _ (room : length store ≡ storeSize) where
-      pub save-other-form : length form ≢ 2 * storedBlock → Saved 1 form
-      save-other-form d =
-          refused (unfold saveNumber firstFailed in rw (good, eq-eqb (length store) storeSize room, ne-eqb (length form) (2 * storedBlock) d))
-
-      number-0 : length form ≡ 2 * storedBlock → saveNumber rx store form ≡ 0
-      unfolding saveNumber firstFailed
-      number-0 size = rw (good, eq-eqb (length store) storeSize room, eq-eqb (length form) (2 * storedBlock) size)
-
-      pub save-taken : length form ≡ 2 * storedBlock → Saved 0 (saved rx store s0 s1)
-      unfolding afterSave
-      save-taken size = (sym (number-0 size), rw (number-0 size))
+  pub save-taken : usable rx (length store) (length form) ≡ true → Saved 0 (saved rx store s0 s1)
+  unfolding afterSave
+  save-taken u = (sym (number-by ∙ rw u), rw (number-by, u))

@@ -1,10 +1,10 @@
 -- The parts that saving writes, one behind the other, are the stored form.
 -- Assumes nothing.
 use mathlib.Core.Path.{_≡_, refl, sym, ap, _∙_}
-use mathlib.Core.List.{List, [], _∷_, _++_, append-assoc, append-nil}
+use mathlib.Core.List.{List, [], _∷_, _++_, append-assoc}
 use Prim.Native.Nat.{ℕ, _+_, _*_, _≤_}
 use native.Mathlib.Omega.{arith}
-use lib.ListN.{length, getD, take, drop, length-append, drop-of-length-le}
+use lib.ListN.{length, getD, take, drop, length-append}
 use lib.Seq.{take-at, drop-at}
 use Rattle.addresses.specs.Octets.{threeOctets}
 use Rattle.foundation.specs.Bits.{tabulate}
@@ -13,10 +13,10 @@ use Rattle.transactions.specs.Flags.{flagOctetCount}
 use Rattle.receiver_state.specs.Receiver.{held}
 use Rattle.receiver_state.specs.declared.Receiver.{Receiver}
 use Rattle.stored.specs.Stored.{storedBlock, checkedSize, firstPart, secondPart, storeAt0, storeAt1, zerosAt, withStoredCheck, heldOctets, head0, body0, storedForm, saved}
-use Rattle.foundation.specs.Octets.{over}
+use Rattle.foundation.specs.Octets.{over, put}
 use Rattle.stored.proofs.HeldOctets.{length-held}
 use Rattle.stored.proofs.ReadingBack.{checkOctets, length-checked, written0, written1, fields, head1, zeros, length-zeros, head, length-head1, length-head, written1-parts, length-written1, length-written0}
-use Rattle.foundation.proofs.Copying.{Grown, grown}
+use Rattle.foundation.proofs.Copying.{Grown, grown, grown-none, grown-put, grown-all}
 
 -- the head, octet by octet
 pub head-is : (rx : Receiver) (s0 s1 : ℕ) (os ts : List ℕ) → length (rx .flags) ≡ flagOctetCount → os ≡ threeOctets (rx .own .0)
@@ -31,7 +31,7 @@ head-is rx s0 s1 os ts eight eo et =
 
 -- a body behind what was written, and its check behind it
 module _ (p body d m m′ : List ℕ) (at n : ℕ) (before : length p ≡ at) (size : length body ≡ n) (room : at + n + 2 ≤ length d)
-    (g : Grown (p ++ body) d m) (o : m′ ≡ over m (at + n) (checkOctets (take n (drop at m)))) where
+    (g : Grown (p ++ body) d m) (o : m′ ≡ put m (at + n) (checkOctets (take n (drop at m)))) where
   body-is : take n (drop at m) ≡ body
   body-is =
       ap (λ (l : List ℕ). take n (drop at l)) (g ∙ append-assoc p body (drop (length (p ++ body)) d))
@@ -44,9 +44,8 @@ module _ (p body d m m′ : List ℕ) (at n : ℕ) (before : length p ≡ at) (s
 
   pub checked-grown : Grown (p ++ withStoredCheck body) d m′
   checked-grown =
-      rw whole at
-      (grown (p ++ body) (checkOctets body) d m m′ (at + n) (length-append p body ∙ omega arith) room g
-      (o ∙ ap (λ (l : List ℕ). over m (at + n) (checkOctets l)) body-is))
+      o ∙ ap (λ (l : List ℕ). put m (at + n) (checkOctets l)) body-is
+      ∙ rw whole at (grown-put d (p ++ body) (checkOctets body) m (at + n) (length-append p body ∙ omega arith) room g)
 
 module _ (rx : Receiver) (store : List ℕ) (s0 s1 : ℕ) (eight : length (rx .flags) ≡ flagOctetCount) where
   abbrev octet : ℕ → ℕ
@@ -75,15 +74,15 @@ module _ (rx : Receiver) (store : List ℕ) (s0 s1 : ℕ) (eight : length (rx .f
   first-is = refl
 
   module _ (d d1 d2 d3 d4 d5 d6 d7 : List ℕ) (room : length d ≡ 2 * storedBlock)
-      (e1 : d1 ≡ over d 0 (head rx s0 s1))
+      (e1 : d1 ≡ put d 0 (head rx s0 s1))
       (e2 : d2 ≡ over d1 storeAt0 (part 0 firstPart))
-      (e3 : d3 ≡ over d2 checkedSize (checkOctets (take checkedSize (drop 0 d2))))
-      (e4 : d4 ≡ over d3 storedBlock (head1 s0 s1))
+      (e3 : d3 ≡ put d2 checkedSize (checkOctets (take checkedSize (drop 0 d2))))
+      (e4 : d4 ≡ put d3 storedBlock (head1 s0 s1))
       (e5 : d5 ≡ over d4 (storedBlock + storeAt1) (part firstPart secondPart))
-      (e6 : d6 ≡ over d5 (storedBlock + zerosAt) zeros)
-      (e7 : d7 ≡ over d6 (storedBlock + checkedSize) (checkOctets (take checkedSize (drop storedBlock d6)))) where
+      (e6 : d6 ≡ put d5 (storedBlock + zerosAt) zeros)
+      (e7 : d7 ≡ put d6 (storedBlock + checkedSize) (checkOctets (take checkedSize (drop storedBlock d6)))) where
     g1 : Grown (head rx s0 s1) d d1
-    g1 = grown [] (head rx s0 s1) d d d1 0 refl (omega (arith, length-head rx s0 s1 eight)) refl e1
+    g1 = e1 ∙ grown-put d [] (head rx s0 s1) d 0 refl (omega (arith, length-head rx s0 s1 eight)) (grown-none d)
 
     g2 : Grown first d d2
     g2 = rw first-is at (grown (head rx s0 s1) (part 0 firstPart) d d1 d2 storeAt0 (length-head rx s0 s1 eight) (omega (arith, length-part 0 firstPart)) g1 e2)
@@ -92,7 +91,7 @@ module _ (rx : Receiver) (store : List ℕ) (s0 s1 : ℕ) (eight : length (rx .f
     g3 = checked-grown [] first d d2 d3 0 checkedSize refl (length-written0 rx octet s0 s1 eight) (omega arith) g2 e3
 
     g4 : Grown (block ++ head1 s0 s1) d d4
-    g4 = grown block (head1 s0 s1) d d3 d4 storedBlock length-block (omega (arith, length-head1 rx s0 s1)) g3 e4
+    g4 = e4 ∙ grown-put d block (head1 s0 s1) d3 storedBlock length-block (omega (arith, length-head1 rx s0 s1)) g3
 
     l4 : length (block ++ head1 s0 s1) ≡ storedBlock + storeAt1
     l4 = length-append block (head1 s0 s1) ∙ omega (arith, length-block, length-head1 rx s0 s1)
@@ -110,8 +109,8 @@ module _ (rx : Receiver) (store : List ℕ) (s0 s1 : ℕ) (eight : length (rx .f
         ∙ ap (λ (l : List ℕ). block ++ l) (sym (append-assoc (head1 s0 s1) (part firstPart secondPart) zeros) ∙ sym (written1-parts rx octet s0 s1))
 
     g6 : Grown (block ++ second) d d6
-    g6 = rw both at
-        (grown (block ++ head1 s0 s1 ++ part firstPart secondPart) zeros d d5 d6 (storedBlock + zerosAt) l5 (omega (arith, length-zeros)) g5 e6)
+    g6 = e6 ∙ rw both at
+        (grown-put d (block ++ head1 s0 s1 ++ part firstPart secondPart) zeros d5 (storedBlock + zerosAt) l5 (omega (arith, length-zeros)) g5)
 
     g7 : Grown (block ++ withStoredCheck second) d d7
     g7 = checked-grown block second d d6 d7 storedBlock checkedSize length-block (length-written1 rx octet s0 s1) (omega arith) g6 e7
@@ -121,6 +120,4 @@ module _ (rx : Receiver) (store : List ℕ) (s0 s1 : ℕ) (eight : length (rx .f
 
     pub written : d7 ≡ saved rx store s0 s1
     unfolding saved storedForm
-    written =
-        g7 ∙ ap (λ (l : List ℕ). block ++ withStoredCheck second ++ l) (drop-of-length-le d {i = length (block ++ withStoredCheck second)} (omega (arith, l7)))
-        ∙ append-nil (block ++ withStoredCheck second)
+    written = grown-all d (block ++ withStoredCheck second) d7 l7 g7

@@ -1,26 +1,26 @@
 -- A stored form that is restored saves back to the same octets.
 -- Assumes nothing.
 use mathlib.Core.Path.{_≡_, refl, sym, ap, ap₂, _∙_}
-use mathlib.Core.Bool.{Bool, true, false, cond}
+use mathlib.Core.Bool.{true, cond}
 use mathlib.Core.List.{List, [], _∷_, _++_}
-use Prim.Native.Nat.{ℕ, zero, suc, _+_, _*_, _-_, _/_, _%_, _≤_, _<_}
+use Prim.Native.Nat.{ℕ, suc, _+_, _*_, _-_, _/_, _%_, _≤_, _<_}
 use native.Mathlib.Omega.{arith}
-use borrow.Author.Tests.{eqb-true}
-use lib.Dec.{ltb}
+use borrow.Author.Tests.{eq-eqb, eqb-true}
+use lib.Dec.{eqb}
 use lib.ListN.{length, getD, take, drop, length-drop, take-append-drop, drop-of-length-le}
 use lib.Seq.{length-take-le, take-at, drop-at, take-all, take-add, drop-cons, getD-take, getD-drop, ext-getD}
 use Rattle.addresses.specs.Octets.{addressAt, threeOctets}
 use Rattle.foundation.specs.Bits.{tabulate}
-use Rattle.foundation.specs.Order.{firstFailed}
-use Rattle.checks.specs.Checks.{headerCheck, headerGood}
+use Rattle.checks.specs.Checks.{headerCheck, headerGood, messageGood}
 use Rattle.checks.proofs.HeaderChecks.{header-long}
 use Rattle.packets.proofs.Octets.{Octets, octets-take, octets-drop}
+use Rattle.messages.specs.Messages.{blockSize}
 use Rattle.transactions.specs.Flags.{flagOctetCount}
-use Rattle.foundation.proofs.Tests.{never}
 use Rattle.foundation.proofs.Order.{numbered, passed-at}
-use Rattle.receiver_state.specs.Receiver.{storeSize, held}
+use Rattle.receiver_state.specs.Receiver.{storeSize, held, receiverGood}
 use Rattle.receiver_state.specs.declared.Receiver.{Receiver}
 use Rattle.stored.specs.Stored.{storedBlock, checkedSize, firstPart, secondPart, zeroPart, storeAt0, storeAt1, zerosAt, withStoredCheck, heldOctets, body0, storedForm, saved, block0, block1, receiverIn, storeIn, zerosFrom, clear, layoutTests, restoreTests, restoreNumber}
+use Rattle.stored.specs.Claims.{Savable}
 use Rattle.stored.proofs.HeldOctets.{held-all, clear-at, zerosFrom-at}
 use Rattle.stored.proofs.StoreReading.{part-tabulated, part0, part1, length-part0, length-part1, length-storeIn}
 use Rattle.stored.proofs.ReadingBack.{Starts, written0, written1, zeros, length-zeros, zeros-at, fields, head, head1, head-parts, written1-parts}
@@ -30,7 +30,7 @@ tests-numbered : (rx : Receiver) (form store : List ℕ) → numbered (restoreTe
 unfolding restoreTests layoutTests
 tests-numbered rx form store = refl
 
-pub restore-passed : (rx : Receiver) (form store : List ℕ) → restoreNumber rx form store ≡ 0 → (i : ℕ) → getD (restoreTests rx form store) i (true, 0) .0 ≡ true
+restore-passed : (rx : Receiver) (form store : List ℕ) → restoreNumber rx form store ≡ 0 → (i : ℕ) → getD (restoreTests rx form store) i (true, 0) .0 ≡ true
 unfolding restoreNumber
 restore-passed rx form store none i = passed-at (restoreTests rx form store) i (tests-numbered rx form store) none
 
@@ -136,7 +136,7 @@ module _ (a b : List ℕ) (size0 : length a ≡ storedBlock) (size1 : length b �
 
 -- ---- the whole form
 
-module _ (rx : Receiver) (form store : List ℕ) (small : Octets form) (none : restoreNumber rx form store ≡ 0) where
+module _ (rx : Receiver) (form store : List ℕ) (none : restoreNumber rx form store ≡ 0) where
   abbrev a : List ℕ
   a = block0 form
 
@@ -169,6 +169,10 @@ module _ (rx : Receiver) (form store : List ℕ) (small : Octets form) (none : r
     stamp1 = eqb-true (getD a 3 0) (getD b 3 0) (test 10);
   }
 
+  good : receiverGood (receiverIn a) ≡ true
+  unfolding restoreTests layoutTests
+  good = test 11
+
   clean : clear (receiverIn a) (storeIn a b) storeSize ≡ true
   unfolding restoreTests layoutTests
   clean = test 12
@@ -176,6 +180,10 @@ module _ (rx : Receiver) (form store : List ℕ) (small : Octets form) (none : r
   blank : zerosFrom b zerosAt zeroPart ≡ true
   unfolding restoreTests layoutTests
   blank = test 13
+
+  checked : cond (eqb (receiverIn a .phase) 2) (messageGood (take (blockSize * receiverIn a .transaction .blocks) (storeIn a b))) true ≡ true
+  unfolding restoreTests layoutTests
+  checked = test 14
 
   size0 : length a ≡ storedBlock
   unfolding block0
@@ -185,29 +193,43 @@ module _ (rx : Receiver) (form store : List ℕ) (small : Octets form) (none : r
   unfolding block1
   size1 = length-drop storedBlock form ∙ omega (arith, length-form)
 
-  small0 : Octets a
-  unfolding block0
-  small0 = octets-take storedBlock form small
+  eight : length (receiverIn a .flags) ≡ flagOctetCount
+  unfolding receiverIn
+  eight = length-take-le flagOctetCount (drop 15 a) (omega (arith, length-drop 15 a, size0))
 
-  small1 : Octets b
-  unfolding block1
-  small1 = octets-drop storedBlock form small
+  -- the receiver and the store in it can be saved
+  pub savable : Savable (receiverIn a) (storeIn a b)
+  savable = record {
+    good = good;
+    flags = eight;
+    room = length-storeIn a b size0 size1;
+    checked = λ p. rw (eq-eqb (receiverIn a .phase) 2 p) at checked;
+  }
 
-  stamp : (i : ℕ) → i < storedBlock → getD form i 0 ≡ getD a i 0
-  unfolding block0
-  stamp i h = sym (getD-take storedBlock form i 0 h)
+  module _ (small : Octets form) where
+    small0 : Octets a
+    unfolding block0
+    small0 = octets-take storedBlock form small
 
-  block0-same : withStoredCheck (written0 (receiverIn a) (octetIn a b) (getD form 2 0) (getD form 3 0)) ≡ a
-  block0-same =
-      ap₂ (λ (s t : ℕ). withStoredCheck (written0 (receiverIn a) (octetIn a b) s t)) (stamp 2 (omega arith)) (stamp 3 (omega arith))
-      ∙ ap withStoredCheck (written0-same a b size0 size1 clean starts small0) ∙ check-same a checkedSize size0 small0 good0
+    small1 : Octets b
+    unfolding block1
+    small1 = octets-drop storedBlock form small
 
-  block1-same : withStoredCheck (written1 (receiverIn a) (octetIn a b) (getD form 2 0) (getD form 3 0)) ≡ b
-  block1-same =
-      ap₂ (λ (s t : ℕ). withStoredCheck (written1 (receiverIn a) (octetIn a b) s t))
-      (stamp 2 (omega arith) ∙ starts .stamp0) (stamp 3 (omega arith) ∙ starts .stamp1)
-      ∙ ap withStoredCheck (written1-same a b size0 size1 clean starts blank) ∙ check-same b checkedSize size1 small1 good1
+    stamp : (i : ℕ) → i < storedBlock → getD form i 0 ≡ getD a i 0
+    unfolding block0
+    stamp i h = sym (getD-take storedBlock form i 0 h)
 
-  pub saved-back : saved (receiverIn a) (storeIn a b) (getD form 2 0) (getD form 3 0) ≡ form
-  unfolding saved storedForm block0 block1
-  saved-back = ap₂ (λ (x y : List ℕ). x ++ y) block0-same block1-same ∙ take-append-drop storedBlock form
+    block0-same : withStoredCheck (written0 (receiverIn a) (octetIn a b) (getD form 2 0) (getD form 3 0)) ≡ a
+    block0-same =
+        ap₂ (λ (s t : ℕ). withStoredCheck (written0 (receiverIn a) (octetIn a b) s t)) (stamp 2 (omega arith)) (stamp 3 (omega arith))
+        ∙ ap withStoredCheck (written0-same a b size0 size1 clean starts small0) ∙ check-same a checkedSize size0 small0 good0
+
+    block1-same : withStoredCheck (written1 (receiverIn a) (octetIn a b) (getD form 2 0) (getD form 3 0)) ≡ b
+    block1-same =
+        ap₂ (λ (s t : ℕ). withStoredCheck (written1 (receiverIn a) (octetIn a b) s t))
+        (stamp 2 (omega arith) ∙ starts .stamp0) (stamp 3 (omega arith) ∙ starts .stamp1)
+        ∙ ap withStoredCheck (written1-same a b size0 size1 clean starts blank) ∙ check-same b checkedSize size1 small1 good1
+
+    pub saved-back : saved (receiverIn a) (storeIn a b) (getD form 2 0) (getD form 3 0) ≡ form
+    unfolding saved storedForm block0 block1
+    saved-back = ap₂ (λ (x y : List ℕ). x ++ y) block0-same block1-same ∙ take-append-drop storedBlock form

@@ -1,20 +1,22 @@
 -- What a stored form holds, octet by octet, and its rules tested from the last octet down.
 -- Assumes nothing.
-use mathlib.Core.Path.{_≡_, refl, sym, ap, _∙_}
+use mathlib.Core.Path.{_≡_, refl, _∙_}
 use mathlib.Core.Bool.{Bool, true, false, cond}
-use mathlib.Core.List.{List, _++_}
+use mathlib.Core.List.{List}
 use mathlib.Core.Logic.{_≢_}
 use Prim.Native.Nat.{ℕ, _+_, _-_, _/_, _≤_, _<_}
 use native.Mathlib.Omega.{arith}
 use borrow.Author.Tests.{eq-eqb, ne-eqb}
 use lib.Dec.{eqb}
-use lib.ListN.{length, getD, take, drop, length-append, length-drop, List·getD-append}
-use lib.Seq.{length-take-le, getD-take, getD-drop, getD-append-add}
+use lib.ListN.{length, getD, take, drop, replicate, length-append, length-drop}
+use lib.Seq.{length-take-le, getD-take, getD-drop}
 use Rattle.addresses.specs.Octets.{addressAt}
 use Rattle.addresses.specs.declared.RadioAddress.{RadioAddress}
 use Rattle.foundation.specs.Bits.{tabulate}
 use Rattle.foundation.proofs.Runs.{tabulated}
 use Rattle.foundation.specs.Order.{every}
+use Rattle.foundation.specs.Octets.{put}
+use Rattle.foundation.proofs.Copying.{put-all, put-both}
 use Rattle.messages.specs.Messages.{blockSize}
 use Rattle.transactions.specs.Flags.{flagOctetCount, flagged}
 use Rattle.foundation.proofs.Order.{every-stops, every-goes}
@@ -28,25 +30,18 @@ part-tabulated os at n h =
     tabulated n (λ i. getD os (at + i) 0) (take n (drop at os)) (length-take-le n (drop at os) (omega (arith, length-drop at os)))
     (λ i l. getD-take n (drop at os) i 0 l ∙ getD-drop at os i 0)
 
-pub receiver-is : (a : List ℕ) (own source : RadioAddress) → 23 ≤ length a → own .0 ≡ addressAt a 5 .0 → source .0 ≡ addressAt a 8 .0
+pub receiver-is : (a : List ℕ) (own source : RadioAddress) (flags : List ℕ) → 23 ≤ length a → own ≡ addressAt a 5 → source ≡ addressAt a 8
+    → flags ≡ put (replicate flagOctetCount 0) 0 (take flagOctetCount (drop 15 a))
     → record {
       own = own;
       phase = getD a 4 0;
       transaction = record { source = source; sap = getD a 11 0; ns = getD a 12 0; pad = getD a 13 0; blocks = getD a 14 0 };
-      flags = tabulate flagOctetCount (λ i. getD a (15 + i) 0);
+      flags = flags;
     } ≡ receiverIn a
 unfolding receiverIn
-receiver-is a own source h e f = rw (part-tabulated a 15 flagOctetCount h, ← e, ← f)
-
--- one part behind another
-module _ (p q : List ℕ) (n : ℕ) (size : length p ≡ n) where
-  front-at : (i : ℕ) → i < n → getD (p ++ q) i 0 ≡ getD p i 0
-  front-at i h = List·getD-append p q 0 i (omega arith)
-
-  back-at : (i : ℕ) → n ≤ i → getD (p ++ q) i 0 ≡ getD q (i - n) 0
-  back-at i h =
-      let e : i ≡ length p + (i - n) = omega arith in
-      ap (λ (k : ℕ). getD (p ++ q) k 0) e ∙ getD-append-add p q (i - n) 0
+receiver-is a own source flags h e f g =
+    let l : length (take flagOctetCount (drop 15 a)) ≡ flagOctetCount = length-take-le flagOctetCount (drop 15 a) (omega (arith, length-drop 15 a)) in
+    rw (e, f, g, put-all (replicate flagOctetCount 0) (take flagOctetCount (drop 15 a)) l)
 
 -- the store's octets in block 0 and in block 1
 abbrev pub part0 : List ℕ → List ℕ
@@ -67,15 +62,10 @@ module _ (a b : List ℕ) (size-a : length a ≡ storedBlock) (size-b : length b
   unfolding storeIn
   length-storeIn = length-append (part0 a) (part1 b) ∙ omega (arith, length-part0 a size-a, length-part1 b size-b)
 
-  pub first-in : (i : ℕ) → i < firstPart → getD a (storeAt0 + i) 0 ≡ getD (storeIn a b) i 0
+  pub store-is : (d m : List ℕ) → length d ≡ storeSize → m ≡ put (put d 0 (part0 a)) firstPart (part1 b) → m ≡ storeIn a b
   unfolding storeIn
-  first-in i h = sym (front-at (part0 a) (part1 b) firstPart (length-part0 a size-a) i h ∙ getD-take firstPart (drop storeAt0 a) i 0 h ∙ getD-drop storeAt0 a i 0)
-
-  pub second-in : (i : ℕ) → firstPart ≤ i → i < storeSize → getD b (storeAt1 + (i - firstPart)) 0 ≡ getD (storeIn a b) i 0
-  unfolding storeIn
-  second-in i h l =
-      sym (back-at (part0 a) (part1 b) firstPart (length-part0 a size-a) i h ∙ getD-take secondPart (drop storeAt1 b) (i - firstPart) 0 (omega arith)
-      ∙ getD-drop storeAt1 b (i - firstPart) 0)
+  store-is d m e p =
+      p ∙ put-both d (part0 a) (part1 b) firstPart (length-part0 a size-a) (omega (arith, length-part1 b size-b))
 
 -- ---- octets that are zero
 

@@ -1,21 +1,26 @@
 -- What private functions require and give: nothing that a reader has to believe.
 -- Assumes nothing.
 use mathlib.Core.Bool.{Bool, true, cond}
-use mathlib.Core.List.{List, [], _∷_, _++_}
-use Prim.Native.Nat.{ℕ, _+_, _*_}
+use mathlib.Core.List.{List, [], _∷_}
+use Prim.Native.Nat.{ℕ, _*_}
 use lib.Dec.{eqb}
-use lib.ListN.{length, getD, take, drop}
-use Rattle.foundation.specs.Order.{firstFailed}
+use lib.ListN.{getD, take}
+use Rattle.foundation.specs.Order.{all}
 use Rattle.checks.specs.Checks.{messageGood}
 use Rattle.messages.specs.Messages.{blockSize}
+use Rattle.receiver_state.specs.Receiver.{storeSize, receiverGood}
 use Rattle.receiver_state.specs.declared.Receiver.{Receiver}
-use Rattle.stored.specs.Stored.{layoutTests}
+use Rattle.stored.specs.Stored.{storedBlock, zerosAt, zeroPart, zerosFrom, clear}
+
+-- what a receiver and the sizes of its store and of a stored form must be
+unfoldable pub usable : Receiver → ℕ → ℕ → Bool
+usable rx store form = all (receiverGood rx ∷ eqb store storeSize ∷ eqb form (2 * storedBlock) ∷ [])
 
 -- octets 0 and 1 of both blocks, and their stamps
 unfoldable pub marked : List ℕ → List ℕ → Bool
 marked a b =
-    eqb (firstFailed ((eqb (getD a 0 0) 1, 18) ∷ (eqb (getD a 1 0) 0, 18) ∷ (eqb (getD b 0 0) 1, 18) ∷ (eqb (getD b 1 0) 1, 18)
-    ∷ (eqb (getD a 2 0) (getD b 2 0), 18) ∷ (eqb (getD a 3 0) (getD b 3 0), 18) ∷ [])) 0
+    all (eqb (getD a 0 0) 1 ∷ eqb (getD a 1 0) 0 ∷ eqb (getD b 0 0) 1 ∷ eqb (getD b 1 0) 1 ∷ eqb (getD a 2 0) (getD b 2 0)
+    ∷ eqb (getD a 3 0) (getD b 3 0) ∷ [])
 
 -- a complete transaction has a good message check
 unfoldable pub checked : Receiver → List ℕ → Bool
@@ -23,4 +28,5 @@ checked rx store = cond (eqb (rx .phase) 2) (messageGood (take (blockSize * rx .
 
 -- every rule of the layout is kept
 unfoldable pub layoutKept : List ℕ → List ℕ → Receiver → List ℕ → Bool
-layoutKept a b rx store = eqb (firstFailed (layoutTests a b rx store)) 0
+layoutKept a b rx store =
+    all (marked a b ∷ receiverGood rx ∷ clear rx store storeSize ∷ zerosFrom b zerosAt zeroPart ∷ checked rx store ∷ [])

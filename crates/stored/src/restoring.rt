@@ -1,19 +1,20 @@
 // Restoring a receiver from its stored form.
 ghost use mathlib.Core.Path.{_≡_};
-ghost use mathlib.Core.Bool.{true};
-ghost use Prim.Native.Nat.{_<_};
-ghost use lib.ListN.{length, getD};
+ghost use mathlib.Core.Bool.{true, cond};
+ghost use lib.Dec.{eqb};
+ghost use lib.ListN.{length};
 ghost use Rattle.receiver_state.specs.Receiver.{storeSize, receiverGood};
 ghost use Rattle.stored.specs.Stored.{storedBlock, zerosAt, zeroPart, receiverIn, storeIn, zerosFrom, clear, restoreNumber, restored, afterRestore};
 ghost use Rattle.stored.specs.Claims.{SavesBack};
 ghost use Rattle.stored.specs.Parts.{marked, checked, layoutKept};
+use crate::saving::CHECKED;
 use crate::saving::FIRST_PART;
-use crate::saving::FORM;
 use crate::saving::STORE_AT_0;
 use crate::saving::STORE_AT_1;
 use crate::saving::STORED_BLOCK;
 use crate::saving::ZEROS;
 use crate::saving::ZEROS_AT;
+use addresses::RadioAddress;
 use messages::message::BLOCK;
 use receiver_state::Receiver;
 use receiver_state::STORE;
@@ -32,8 +33,8 @@ fn receiver_in(a: &[u8]) -> Receiver
     requires { ⌜ length (now a) ≡ storedBlock ⌝ }
     ensures { λ r. ⌜ r ≡ receiverIn (now (a .entry)) ⌝ }
 {
-    let own = addresses::radio_address(a[5], a[6], a[7]);
-    let source = addresses::radio_address(a[8], a[9], a[10]);
+    let own = addresses::address_at(a, 5);
+    let source = addresses::address_at(a, 8);
     let transaction = Transaction {
         source,
         sap: a[11],
@@ -41,23 +42,14 @@ fn receiver_in(a: &[u8]) -> Receiver
         pad: a[13],
         blocks: a[14],
     };
+    let mut flags = [0u8; 8];
+    foundation::octets::put(&mut flags, 0, &a[15..STORE_AT_0]);
     Receiver {
         own,
         phase: a[4],
         transaction,
-        flags: [a[15], a[16], a[17], a[18], a[19], a[20], a[21], a[22]],
+        flags,
     }
-}
-
-// Octet i of the store in the two blocks.
-fn octet_in(a: &[u8], b: &[u8], i: usize) -> u8
-    requires { ⌜ (length (now a) ≡ storedBlock) × (length (now b) ≡ storedBlock) × (i < storeSize) ⌝ }
-    ensures { λ r. ⌜ r ≡ getD (storeIn (now (a .entry)) (now (b .entry))) i 0 ⌝ }
-{
-    if i < FIRST_PART {
-        return a[STORE_AT_0 + i];
-    }
-    b[STORE_AT_1 + (i - FIRST_PART)]
 }
 
 // The store in the two blocks.
@@ -66,37 +58,24 @@ fn store_in(a: &[u8], b: &[u8]) -> [u8; STORE]
     ensures { λ r. ⌜ r ≡ storeIn (now (a .entry)) (now (b .entry)) ⌝ }
 {
     let mut store = [0u8; STORE];
-    let mut i: usize = 0;
-    while i < STORE {
-        store[i] = octet_in(a, b, i);
-        i += 1;
-    }
+    foundation::octets::put(&mut store, 0, &a[STORE_AT_0..CHECKED]);
+    foundation::octets::put(&mut store, FIRST_PART, &b[STORE_AT_1..ZEROS_AT]);
     store
 }
 
 // ---- the rules of the layout
 
-// Octets 0 and 1 of both blocks, and their stamps.
+// Whether block 0 starts with 1 and 0, block 1 with 1 and 1, and both go on with one stamp.
 fn is_marked(a: &[u8], b: &[u8]) -> bool
-    requires { ⌜ (length (now a) ≡ storedBlock) × (length (now b) ≡ storedBlock) ⌝ }
     ensures { λ r. ⌜ r ≡ marked (now (a .entry)) (now (b .entry)) ⌝ }
 {
-    if a[0] != 1 {
+    let first = addresses::number_at(a, 0);
+    let second = addresses::number_at(b, 0);
+    let stamp = first % 0x1_0000;
+    if first != 0x100_0000 + stamp {
         return false;
     }
-    if a[1] != 0 {
-        return false;
-    }
-    if b[0] != 1 {
-        return false;
-    }
-    if b[1] != 1 {
-        return false;
-    }
-    if a[2] != b[2] {
-        return false;
-    }
-    a[3] == b[3]
+    second == 0x101_0000 + stamp
 }
 
 // Whether the octets of blocks not held are zero.
@@ -166,17 +145,21 @@ fn layout_kept(a: &[u8], b: &[u8], rx: Receiver, store: [u8; STORE]) -> bool
 
 // ---- restoring
 
+// 19 for a stored address that is not the own one, else 0.
+fn address_number(own: RadioAddress, stored: RadioAddress) -> u8
+    ensures { λ r. ⌜ r ≡ cond (eqb (stored .0) (own .0)) 0 19 ⌝ }
+{
+    if stored.0 != own.0 {
+        return 19;
+    }
+    0
+}
+
 // The number of a stored form: 1, 17, 18, 19, or 0 for none.
 fn number_of(rx: Receiver, form: &[u8], store: &[u8]) -> u8
     ensures { λ r. ⌜ r ≡ restoreNumber rx (now (form .entry)) (now (store .entry)) ⌝ }
 {
-    if !receiver_state::is_good(rx) {
-        return 1;
-    }
-    if store.len() != STORE {
-        return 1;
-    }
-    if form.len() != FORM {
+    if !crate::usable(rx, store.len(), form.len()) {
         return 1;
     }
     let a = &form[..STORED_BLOCK];
@@ -191,24 +174,7 @@ fn number_of(rx: Receiver, form: &[u8], store: &[u8]) -> u8
     if !layout_kept(a, b, read, store_in(a, b)) {
         return 18;
     }
-    let stored_own = read.own;
-    let own = rx.own;
-    if stored_own.0 != own.0 {
-        return 19;
-    }
-    0
-}
-
-// The octets become those of the store.
-fn put_store(store: &mut [u8], octets: [u8; STORE])
-    requires { ⌜ length (now store) ≡ storeSize ⌝ }
-    ensures { λ r. ⌜ now (store .exit) ≡ octets ⌝ }
-{
-    let mut i: usize = 0;
-    while i < STORE {
-        store[i] = octets[i];
-        i += 1;
-    }
+    address_number(rx.own, read.own)
 }
 
 // Restores a receiver and its store from any octets; a refusal leaves both as they were.
@@ -227,7 +193,8 @@ pub fn restore(rx: Receiver, form: &[u8], store: &mut [u8]) -> Restored
     let a = &form[..STORED_BLOCK];
     let b = &form[STORED_BLOCK..];
     let receiver = receiver_in(a);
-    put_store(store, store_in(a, b));
+    let octets = store_in(a, b);
+    foundation::octets::put(store, 0, &octets);
     Restored {
         number: 0,
         receiver,

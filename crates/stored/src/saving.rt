@@ -4,12 +4,12 @@ ghost use mathlib.Core.List.{_∷_, []};
 ghost use mathlib.Core.Bool.{cond};
 ghost use Rattle.messages.specs.Messages.{blockSize};
 ghost use Prim.Native.Nat.{_+_, _/_, _%_, _≤_, _<_};
-ghost use lib.ListN.{length, getD, take, drop, replicate};
+ghost use lib.ListN.{length, getD, take, drop};
 ghost use Rattle.checks.specs.Checks.{headerCheck};
 ghost use Rattle.transactions.specs.Flags.{flagged};
 ghost use Rattle.stored.specs.Stored.{storedBlock, checkedSize, heldOctets, head0, saveNumber, afterSave};
 ghost use Rattle.stored.specs.Claims.{Savable, Restores};
-ghost use Rattle.foundation.specs.Octets.{over};
+ghost use Rattle.foundation.specs.Octets.{over, put};
 use messages::message::BLOCK;
 use receiver_state::Receiver;
 use receiver_state::STORE;
@@ -35,18 +35,6 @@ pub const ZEROS_AT: usize = STORE_AT_1 + SECOND_PART;
 
 pub const ZEROS: usize = CHECKED - ZEROS_AT;
 
-// Octets written over a slice at a place.
-fn copy_at(to: &mut [u8], at: usize, octets: &[u8])
-    requires { ⌜ at + length (now octets) ≤ length (now to) ⌝ }
-    ensures { λ r. ⌜ now (to .exit) ≡ over (now (to .entry)) at (now (octets .entry)) ⌝ }
-{
-    let mut i: usize = 0;
-    while i < octets.len() {
-        to[at + i] = octets[i];
-        i += 1;
-    }
-}
-
 // Octet i of the store, 0 where its block is not held.
 fn held_octet(flags: [u8; 8], store: &[u8], i: usize) -> u8
     requires { ⌜ i < length (now store) ⌝ }
@@ -70,28 +58,16 @@ fn held_at(to: &mut [u8], at: usize, flags: [u8; 8], store: &[u8], from: usize, 
     }
 }
 
-// n zeros at a place.
-fn zeros_at(to: &mut [u8], at: usize, n: usize)
-    requires { ⌜ at + n ≤ length (now to) ⌝ }
-    ensures { λ r. ⌜ now (to .exit) ≡ over (now (to .entry)) at (replicate n 0) ⌝ }
-{
-    let mut i: usize = 0;
-    while i < n {
-        to[at + i] = 0;
-        i += 1;
-    }
-}
-
 // The check of the 510 octets of a block, written behind them.
 fn check_at(to: &mut [u8], at: usize)
     requires { ⌜ at + storedBlock ≤ length (now to) ⌝ }
-    ensures { λ r. ⌜ now (to .exit) ≡ over (now (to .entry)) (at + checkedSize)
+    ensures { λ r. ⌜ now (to .exit) ≡ put (now (to .entry)) (at + checkedSize)
         (headerCheck 0 (take checkedSize (drop at (now (to .entry)))) / 256 ∷ headerCheck 0 (take checkedSize (drop at (now (to .entry)))) % 256 ∷ []) ⌝ }
 {
     let end = at + CHECKED;
     let check = checks::header(0, &to[at..end]);
     let octets = [(check / 256) as u8, (check % 256) as u8];
-    copy_at(to, end, &octets);
+    foundation::octets::put(to, end, &octets);
 }
 
 // The first 23 octets of block 0.
@@ -135,22 +111,16 @@ pub fn save(rx: Receiver, store: &[u8], s0: u8, s1: u8, form: &mut [u8]) -> u8
         × (now (form .exit) ≡ afterSave rx (now (store .entry)) s0 s1 (now (form .entry)))
         × (Savable rx (now (store .entry)) → Restores rx (now (store .entry)) s0 s1) ⌝ }
 {
-    if !receiver_state::is_good(rx) {
-        return 1;
-    }
-    if store.len() != STORE {
-        return 1;
-    }
-    if form.len() != FORM {
+    if !crate::usable(rx, store.len(), form.len()) {
         return 1;
     }
     let flags = rx.flags;
     let first = head(rx, s0, s1);
-    copy_at(form, 0, &first);
+    foundation::octets::put(form, 0, &first);
     held_at(form, STORE_AT_0, flags, store, 0, FIRST_PART);
     check_at(form, 0);
     let second = [1, 1, s0, s1];
-    copy_at(form, STORED_BLOCK, &second);
+    foundation::octets::put(form, STORED_BLOCK, &second);
     held_at(
         form,
         STORED_BLOCK + STORE_AT_1,
@@ -159,7 +129,8 @@ pub fn save(rx: Receiver, store: &[u8], s0: u8, s1: u8, form: &mut [u8]) -> u8
         FIRST_PART,
         SECOND_PART,
     );
-    zeros_at(form, STORED_BLOCK + ZEROS_AT, ZEROS);
+    let zeros = [0u8; ZEROS];
+    foundation::octets::put(form, STORED_BLOCK + ZEROS_AT, &zeros);
     check_at(form, STORED_BLOCK);
     0
 }

@@ -1,7 +1,7 @@
 -- Flags of blocks in octets: what they are with one more, without any, and as made of a test.
 -- Assumes nothing.
 use mathlib.Core.Path.{_≡_, refl, sym, ap, ap₂, subst, _∙_}
-use mathlib.Core.Bool.{Bool, true, false, cond}
+use mathlib.Core.Bool.{Bool, true, false, not, cond, Bool·beq}
 use mathlib.Core.List.{List}
 use mathlib.Core.Logic.{_≢_}
 use Prim.Native.Nat.{ℕ, zero, suc, _+_, _*_, _-_, _/_, _%_, _^_, _≤_, _<_}
@@ -17,7 +17,7 @@ use borrow.Author.Tests.{eqb-true, eqb-false, eq-eqb, ne-eqb}
 use Rattle.foundation.specs.Bits.{bit}
 use Rattle.foundation.proofs.Runs.{getD-tabulate, tabulated}
 use Rattle.foundation.specs.Order.{every}
-use Rattle.foundation.proofs.Tests.{every-at, all-eq, all-eq₂}
+use Rattle.foundation.proofs.Tests.{every-at, every-ext, all-eq, all-eq₂}
 use Rattle.transactions.specs.Flags.{flagged, weights, flagOctets, withFlag}
 use Rattle.foundation.proofs.Filling.{getD-zeros}
 use Rattle.foundation.proofs.Tests.{either}
@@ -201,3 +201,20 @@ octets-of-flags os e octet = sym (tabulated 8 (λ j. weights (flagged os) (8 * j
         weights-ext (flagged os) (λ k. eqb (bit k (getD os j 0)) 1) (8 * j) 0 8
         (λ k l. ap₂ (λ (i p : ℕ). eqb (bit p (getD os i 0)) 1) (omega arith) (omega arith))
         ∙ octet-weights (getD os j 0) (octet j)
+
+-- ---- every flag below n as wanted
+
+is-true : (t : Bool) → Bool·beq t true ≡ t
+is-true true = refl
+is-true false = refl
+
+is-false : (t : Bool) → Bool·beq t false ≡ not t
+is-false true = refl
+is-false false = refl
+
+module _ (flags : List ℕ) (n : ℕ) where
+  pub all-flagged : every n (λ i. Bool·beq (flagged flags i) true) ≡ every n (flagged flags)
+  all-flagged = every-ext n _ (flagged flags) (λ i h. is-true (flagged flags i))
+
+  pub none-flagged : every n (λ i. Bool·beq (flagged flags i) false) ≡ every n (λ i. not (flagged flags i))
+  none-flagged = every-ext n _ _ (λ i h. is-false (flagged flags i))

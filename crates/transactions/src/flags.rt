@@ -1,7 +1,7 @@
 // Flags of blocks in eight octets: block n in octet n / 8 at weight 2^(n mod 8).
 ghost use mathlib.Core.Path.{_≡_};
 ghost use Prim.Native.Nat.{_<_};
-ghost use mathlib.Core.Bool.{not};
+ghost use mathlib.Core.Bool.{not, Bool·beq};
 ghost use Rattle.foundation.specs.Order.{every};
 ghost use Rattle.transactions.specs.Flags.{flagged, withFlag};
 
@@ -33,30 +33,30 @@ pub fn with(flags: [u8; 8], n: usize) -> [u8; 8]
     next
 }
 
-// Whether every block below n is flagged.
-pub fn all_below(flags: [u8; 8], n: usize) -> bool
-    ensures { λ r. ⌜ r ≡ every n (flagged flags) ⌝ }
+// Whether every block below n is flagged where `wanted` is true, and none where it is false.
+fn every_below(flags: [u8; 8], n: usize, wanted: bool) -> bool
+    ensures { λ r. ⌜ r ≡ every n (λ i. Bool·beq (flagged flags i) wanted) ⌝ }
 {
     let mut i: usize = n;
     while 0 < i {
         i -= 1;
-        if !is_set(flags, i) {
+        if is_set(flags, i) != wanted {
             return false;
         }
     }
     true
 }
 
+// Whether every block below n is flagged.
+pub fn all_below(flags: [u8; 8], n: usize) -> bool
+    ensures { λ r. ⌜ r ≡ every n (flagged flags) ⌝ }
+{
+    every_below(flags, n, true)
+}
+
 // Whether no block below n is flagged.
 pub fn none_below(flags: [u8; 8], n: usize) -> bool
     ensures { λ r. ⌜ r ≡ every n (λ i. not (flagged flags i)) ⌝ }
 {
-    let mut i: usize = n;
-    while 0 < i {
-        i -= 1;
-        if is_set(flags, i) {
-            return false;
-        }
-    }
-    true
+    every_below(flags, n, false)
 }

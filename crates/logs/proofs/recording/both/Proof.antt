@@ -1,65 +1,50 @@
--- `logs::recording::both` meets its contract: i octets of each are copied.
+-- `logs::recording::both` meets its contract.
 -- Assumes nothing.
-use mathlib.Core.Path.{refl}
-use Prim.Native.Nat.{_-_, _≤_}
+use Prim.Native.Nat.{ℕ}
+use mathlib.Core.Path.{ap, _∙_}
+use mathlib.Core.List.{List}
 use native.Mathlib.Omega.{arith}
-use Rattle.logs.proofs.Lists.{Halves, halves-more, halves-whole}
+use lib.ListN.{replicate}
+use Rattle.foundation.specs.Octets.{put}
+use Rattle.foundation.proofs.Copying.{put-both}
+use borrow.Author.Needs.{needs}
 use Rattle.logs.proofs.recording.both.Statement.{statement}
 use Rattle.logs.proofs.recording.both.Tie as tie
 
-abbrev Inv-loop : tie.InvT-loop
-Inv-loop header block octets₀ i₀ octets i = (i ≤ 12) × Halves 12 header block i octets
+slice-aggregate-put : tie.Need-slice-aggregate-put
+slice-aggregate-put c = search needs
 
-abbrev μ-loop : tie.MeasureT-loop
-μ-loop header block octets₀ i₀ octets i = 12 - i
+slice-aggregate-put-2 : tie.Need-slice-aggregate-put-2
+slice-aggregate-put-2 c = search needs
 
-loop-holds : tie.Need-loop-holds Inv-loop μ-loop
-loop-holds c = (omega arith, record { size = refl; first = λ i h. absurd (omega arith); second = λ i h. absurd (omega arith) })
+put-requires : tie.Need-put-requires
+put-requires c κs = search needs
 
-array-read-octets : tie.Need-array-read-octets Inv-loop μ-loop
-array-read-octets c = omega arith
+slice-aggregate-put-3 : tie.Need-slice-aggregate-put-3
+slice-aggregate-put-3 c = search needs
 
-array-write-octets : tie.Need-array-write-octets Inv-loop μ-loop
-array-write-octets c = omega arith
+slice-aggregate-put-4 : tie.Need-slice-aggregate-put-4
+slice-aggregate-put-4 c = search needs
 
-array-read-octets-2 : tie.Need-array-read-octets-2 Inv-loop μ-loop
-array-read-octets-2 c = omega arith
+put-requires-2 : tie.Need-put-requires-2
+put-requires-2 c κs = search needs
 
-add-octets : tie.Need-add-octets Inv-loop μ-loop
-add-octets c = omega arith
-
-array-write-octets-2 : tie.Need-array-write-octets-2 Inv-loop μ-loop
-array-write-octets-2 c = omega arith
-
-add-i : tie.Need-add-i Inv-loop μ-loop
-add-i c = omega arith
-
-loop-less : tie.Need-loop-less Inv-loop μ-loop
-loop-less c = omega arith
-
-loop-again : tie.Need-loop-again Inv-loop μ-loop
-loop-again c = let l = c .before .loop in
-    let a = c .before .before .args in
-    (omega arith, halves-more 12 (a .t1) (a .t2) (l .i) (l .octets) (omega arith) (l .inv .1))
-
-returns : tie.Need-returns Inv-loop μ-loop
-returns c = let l = c .before .loop in
-    let a = c .before .before .args in
-    halves-whole 12 (a .t1) (a .t2) (l .i) (l .octets) (omega arith) (omega arith) (omega arith) (l .inv .1)
+returns : tie.Need-returns
+returns c =
+    let k1 = c .before .before .before .before .before in
+    let k2 = k1 .before .before .before in
+    let a = k2 .args in
+    c .before .put2 .ensures ∙ ap (λ (l : List ℕ). put l 12 (a .t2)) (k1 .put .ensures)
+    ∙ put-both (replicate 24 0) (a .t1) (a .t2) 12 (omega arith) (omega arith)
 
 pub both-spec : {M : Type 1} → statement M
 both-spec =
     tie.close
     (tie.spec
-    Inv-loop
-    μ-loop
-    loop-holds
-    array-read-octets
-    array-write-octets
-    array-read-octets-2
-    add-octets
-    array-write-octets-2
-    add-i
-    loop-less
-    loop-again
+    slice-aggregate-put
+    slice-aggregate-put-2
+    put-requires
+    slice-aggregate-put-3
+    slice-aggregate-put-4
+    put-requires-2
     returns)

@@ -5,6 +5,7 @@ use Prim.Native.Nat.{_-_}
 use native.Mathlib.Omega.{arith}
 use lib.ListN.{length, drop, length-drop}
 use lib.Seq.{take-all}
+use Rattle.foundation.proofs.Copying.{put-all}
 use Rattle.receiver_state.specs.declared.Fresh.{Fresh}
 use Rattle.stored.specs.declared.restoring.Restored.{Restored}
 use Rattle.history.specs.Run.{savedForm}
@@ -32,17 +33,17 @@ slice-aggregate-put c = search needs
 put-requires : tie.Need-put-requires
 put-requires c κs = search needs
 
-sub-put-store : tie.Need-sub-put-store
-sub-put-store c = search needs
+sub-put : tie.Need-sub-put
+sub-put c = search needs
 
-part-put-store-start : tie.Need-part-put-store-start
-part-put-store-start c = search needs
+part-put-start : tie.Need-part-put-start
+part-put-start c = search needs
 
-part-put-store-end : tie.Need-part-put-store-end
-part-put-store-end c = search needs
+part-put-end : tie.Need-part-put-end
+part-put-end c = search needs
 
-put-store-requires : tie.Need-put-store-requires
-put-store-requires c κs = search needs
+put-requires-2 : tie.Need-put-requires-2
+put-requires-2 c κs = search needs
 
 fresh-for-requires : tie.Need-fresh-for-requires
 fresh-for-requires c κs = search needs
@@ -61,18 +62,22 @@ same-length-2 c = search needs
 
 returns : tie.Need-returns
 unfolding savedForm lineOf lineIn codeOf contentsOf
-returns c = let st = c .before .before .before .before .before .before .before .before .before .before .before .before .before .before .before .before .before .before .before .before .before .before .before .before .before .before .before in
-    let a = st .args in
+returns c =
+    let k1 = c .before .before .before in
+    let k2 = k1 .before .before .before .before in
+    let k3 = k2 .before .before .before in
+    let k4 = k3 .before .before .before .before .before in
+    let k5 = k4 .before .before .before .before in
+    let k6 = k5 .before .before .before .before .before .before .before .before in
+    let a = k6 .args in
     let os = a .octets .now in
-    let saved = c .before .before .before .before .before .before .before .before .before .before .before .before .before .before .before .before .before .before .before .save .ensures .1 in
-    let form = saved ∙ form-of (a .rx) (st .pre .0) (a .store .now) _ _ _ (st .pre .2) (omega arith) in
-    let fresh = ap (λ (f : Fresh). f .receiver) (c .before .before .before .before .before .before .before .fresh-for .ensures ∙ fresh-of (a .rx) (st .pre .0)) in
-    let put = c .before .before .before .before .before .before .before .before .before .before .put-store .ensures in
-    let other = put ∙ take-all (length os - 2) (drop 2 os) (omega (arith, length-drop 2 os)) in
+    let form = k5 .save .ensures .1 ∙ form-of (a .rx) (k6 .pre .0) (a .store .now) _ _ _ (k6 .pre .2) (omega arith) in
+    let fresh = ap (λ (f : Fresh). f .receiver) (k2 .fresh-for .ensures ∙ fresh-of (a .rx) (k6 .pre .0)) in
+    let rest = take-all (length os - 2) (drop 2 os) (omega (arith, length-drop 2 os)) in
+    let other = k3 .put2 .ensures ∙ put-all (a .store .now) _ (ap length rest ∙ length-drop 2 os ∙ omega (arith, k6 .pre .2, k6 .pre .3)) ∙ rest in
     let left = restart-leaves (a .rx) (a .store .now) os _ _ _ fresh form other in
-    let r = c .before .before .before .restore .ensures in
-    let line = c .before .before .before .before .before .before .before .before .before .before .before .before .before .before .before .put .ensures in
-    (ap (λ (x : Restored). x .receiver) (r .0) ∙ left .0, r .1 ∙ left .1, line ∙ ap (lineOctets 7) form)
+    let r = k1 .restore .ensures in
+    (ap (λ (x : Restored). x .receiver) (r .0) ∙ left .0, r .1 ∙ left .1, k4 .put .ensures ∙ ap (lineOctets 7) form)
 
 pub record-restart-spec : {M : Type 1} → statement M
 record-restart-spec =
@@ -84,10 +89,10 @@ record-restart-spec =
     save-requires
     slice-aggregate-put
     put-requires
-    sub-put-store
-    part-put-store-start
-    part-put-store-end
-    put-store-requires
+    sub-put
+    part-put-start
+    part-put-end
+    put-requires-2
     fresh-for-requires
     slice-aggregate-restore
     restore-requires

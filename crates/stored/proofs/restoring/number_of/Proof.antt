@@ -1,41 +1,29 @@
 -- `stored::restoring::number_of` meets its contract.
 -- Assumes nothing.
 use mathlib.Core.Path.{sym, _∙_}
-use borrow.Author.Needs.{needs}
+use native.Mathlib.Omega.{arith}
 use borrow.Author.Tests.{not-true, not-false}
-use Rattle.stored.proofs.Numbers.{first-block, second-block, block-sizes, impossible, other-store, other-form, check0-bad, check1-bad, layout-broken, other-address, same-address}
+use Rattle.stored.proofs.Numbers.{first-block, second-block, block-sizes, usable-sizes, number-1, check0-bad, check1-bad, layout-broken, by-address}
+use borrow.Author.Needs.{needs}
 use Rattle.stored.proofs.restoring.number_of.Statement.{statement}
 use Rattle.stored.proofs.restoring.number_of.Tie as tie
 
-is-good-requires : tie.Need-is-good-requires
-is-good-requires c κs = search needs
+usable-requires : tie.Need-usable-requires
+usable-requires c κs = search needs
 
 returns : tie.Need-returns
-returns c =
-    let st = c .before .before .before .before in
-    let x = st .args in
-    impossible (x .rx) (x .form .now) (x .store .now) (sym (c .before .is-good .ensures) ∙ not-true _ (c .if1 .taken))
-
-returns-2 : tie.Need-returns-2
-returns-2 c =
-    let st = c .before .before .before .before .before in
-    let x = st .args in
-    other-store (x .rx) (x .form .now) (x .store .now) (sym (c .before .before .is-good .ensures) ∙ not-false _ (c .before .if1 .left)) (c .if2 .taken)
-
-returns-3 : tie.Need-returns-3
-returns-3 c =
-    let st = c .before .before .before .before .before .before in
-    let x = st .args in
-    other-form (x .rx) (x .form .now) (x .store .now) (sym (c .before .before .before .is-good .ensures) ∙ not-false _ (c .before .before .if1 .left)) (c .before .if2 .left) (c .if3 .taken)
+returns c = number-1 _ _ _ (sym (c .before .usable .ensures) ∙ not-true _ (c .if1 .taken))
 
 slice-aggregate-a : tie.Need-slice-aggregate-a
-slice-aggregate-a c = sym (block-sizes (c .before .before .before .before .before .before .before .args .form .now) (c .before .if3 .left) .0)
+slice-aggregate-a c =
+    let k1 = c .before .before .before .before .before in
+    sym (block-sizes (k1 .args .form .now) (usable-sizes _ _ _ (sym (c .before .before .usable .ensures) ∙ not-false _ (c .before .if1 .left)) .1) .0)
 
 sub-b : tie.Need-sub-b
-sub-b c = search needs
+sub-b c = omega (arith, usable-sizes _ _ _ (sym (c .before .before .usable .ensures) ∙ not-false _ (c .before .if1 .left)) .1)
 
 part-b-start : tie.Need-part-b-start
-part-b-start c = search needs
+part-b-start c = omega (arith, usable-sizes _ _ _ (sym (c .before .before .usable .ensures) ∙ not-false _ (c .before .if1 .left)) .1)
 
 part-b-end : tie.Need-part-b-end
 part-b-end c = search needs
@@ -43,88 +31,89 @@ part-b-end c = search needs
 header-good-requires : tie.Need-header-good-requires
 header-good-requires c κs = search needs
 
-returns-4 : tie.Need-returns-4
-returns-4 c =
-    let f = c .before .before .before .before in
-    let st = f .before .before .before .before .before .before in
-    let x = st .args in
-    check0-bad (x .rx) (x .form .now) (x .store .now) (sym (f .before .before .before .is-good .ensures) ∙ not-false _ (f .before .before .if1 .left)) (f .before .if2 .left) (f .if3 .left) _ _ (first-block (x .form .now)) (second-block (x .form .now)) (sym (c .before .header-good .ensures) ∙ not-true _ (c .if4 .taken))
+returns-2 : tie.Need-returns-2
+returns-2 c =
+    let k1 = c .before .before .before .before in
+    let k2 = k1 .before .before .before .before in
+    let x = k2 .args in
+    check0-bad (x .rx) (x .form .now) (x .store .now) (sym (k1 .before .usable .ensures) ∙ not-false _ (k1 .if1 .left)) _ _ (first-block (x .form .now)) (second-block (x .form .now))
+    (sym (c .before .header-good .ensures) ∙ not-true _ (c .if2 .taken))
 
 header-good-requires-2 : tie.Need-header-good-requires-2
 header-good-requires-2 c κs = search needs
 
-returns-5 : tie.Need-returns-5
-returns-5 c =
-    let h0 = c .before .before in
-    let f = h0 .before .before .before .before in
-    let st = f .before .before .before .before .before .before in
-    let x = st .args in
-    check1-bad (x .rx) (x .form .now) (x .store .now) (sym (f .before .before .before .is-good .ensures) ∙ not-false _ (f .before .before .if1 .left)) (f .before .if2 .left) (f .if3 .left) _ _ (first-block (x .form .now)) (second-block (x .form .now))
-    (sym (h0 .before .header-good .ensures) ∙ not-false _ (h0 .if4 .left)) (sym (c .before .header-good2 .ensures) ∙ not-true _ (c .if5 .taken))
+returns-3 : tie.Need-returns-3
+returns-3 c =
+    let k1 = c .before .before .before in
+    let k2 = k1 .before .before .before in
+    let k3 = k2 .before .before .before .before in
+    let x = k3 .args in
+    check1-bad (x .rx) (x .form .now) (x .store .now) (sym (k2 .before .usable .ensures) ∙ not-false _ (k2 .if1 .left)) _ _ (first-block (x .form .now)) (second-block (x .form .now))
+    (sym (k1 .header-good .ensures) ∙ not-false _ (c .before .before .if2 .left)) (sym (c .before .header-good2 .ensures) ∙ not-true _ (c .if3 .taken))
 
 receiver-in-requires : tie.Need-receiver-in-requires
-receiver-in-requires c κs = block-sizes (c .before .before .before .before .before .before .before .before .before .before .before .before .args .form .now) (c .before .before .before .before .before .before .if3 .left) .0
+receiver-in-requires c κs =
+    let k1 = c .before .before .before .before .before .before in
+    let k2 = k1 .before .before .before .before in
+    block-sizes (k2 .args .form .now) (usable-sizes _ _ _ (sym (k1 .before .usable .ensures) ∙ not-false _ (k1 .if1 .left)) .1) .0
 
 store-in-requires : tie.Need-store-in-requires
-store-in-requires c κs = block-sizes (c .before .before .before .before .before .before .before .before .before .before .before .before .before .args .form .now) (c .before .before .before .before .before .before .before .if3 .left)
+store-in-requires c κs =
+    let k1 = c .before .before .before .before .before .before .before in
+    let k2 = k1 .before .before .before .before in
+    block-sizes (k2 .args .form .now) (usable-sizes _ _ _ (sym (k1 .before .usable .ensures) ∙ not-false _ (k1 .if1 .left)) .1)
 
 layout-kept-requires : tie.Need-layout-kept-requires
-layout-kept-requires c κs = block-sizes (c .before .before .before .before .before .before .before .before .before .before .before .before .before .before .args .form .now) (c .before .before .before .before .before .before .before .before .if3 .left)
+layout-kept-requires c κs =
+    let k1 = c .before .before .before .before .before .before .before .before in
+    let k2 = k1 .before .before .before .before in
+    block-sizes (k2 .args .form .now) (usable-sizes _ _ _ (sym (k1 .before .usable .ensures) ∙ not-false _ (k1 .if1 .left)) .1)
 
-returns-6 : tie.Need-returns-6
-returns-6 c =
-    let h1 = c .before .before .before .before in
-    let h0 = h1 .before .before in
-    let f = h0 .before .before .before .before in
-    let st = f .before .before .before .before .before .before in
-    let x = st .args in
-    layout-broken (x .rx) (x .form .now) (x .store .now) (sym (f .before .before .before .is-good .ensures) ∙ not-false _ (f .before .before .if1 .left)) (f .before .if2 .left) (f .if3 .left) _ _ (first-block (x .form .now)) (second-block (x .form .now))
-    (sym (h0 .before .header-good .ensures) ∙ not-false _ (h0 .if4 .left)) (sym (h1 .before .header-good2 .ensures) ∙ not-false _ (h1 .if5 .left)) _ _
-    (c .before .before .before .receiver-in .ensures) (c .before .before .store-in .ensures) (sym (c .before .layout-kept .ensures) ∙ not-true _ (c .if6 .taken))
+returns-4 : tie.Need-returns-4
+returns-4 c =
+    let k1 = c .before .before .before in
+    let k2 = k1 .before .before in
+    let k3 = k2 .before .before in
+    let k4 = k3 .before .before .before in
+    let k5 = k4 .before .before .before .before in
+    let x = k5 .args in
+    layout-broken (x .rx) (x .form .now) (x .store .now) (sym (k4 .before .usable .ensures) ∙ not-false _ (k4 .if1 .left)) _ _ (first-block (x .form .now)) (second-block (x .form .now))
+    (sym (k3 .header-good .ensures) ∙ not-false _ (k2 .before .if2 .left)) (sym (k2 .header-good2 .ensures) ∙ not-false _ (k1 .before .if3 .left)) _ _
+    (k1 .receiver-in .ensures) (c .before .before .store-in .ensures) (sym (c .before .layout-kept .ensures) ∙ not-true _ (c .if4 .taken))
 
-returns-7 : tie.Need-returns-7
-returns-7 c =
-    let l = c .before .before .before .before .before in
-    let h1 = l .before .before .before .before in
-    let h0 = h1 .before .before in
-    let f = h0 .before .before .before .before in
-    let st = f .before .before .before .before .before .before in
-    let x = st .args in
-    other-address (x .rx) (x .form .now) (x .store .now) (sym (f .before .before .before .is-good .ensures) ∙ not-false _ (f .before .before .if1 .left)) (f .before .if2 .left) (f .if3 .left) _ _ (first-block (x .form .now)) (second-block (x .form .now))
-    (sym (h0 .before .header-good .ensures) ∙ not-false _ (h0 .if4 .left)) (sym (h1 .before .header-good2 .ensures) ∙ not-false _ (h1 .if5 .left)) _ _
-    (l .before .before .before .receiver-in .ensures) (l .before .before .store-in .ensures) (sym (l .before .layout-kept .ensures) ∙ not-false _ (l .if6 .left)) (c .if7 .taken)
+address-number-requires : tie.Need-address-number-requires
+address-number-requires c κs = search needs
 
-returns-8 : tie.Need-returns-8
-returns-8 c =
-    let l = c .before .before .before .before .before in
-    let h1 = l .before .before .before .before in
-    let h0 = h1 .before .before in
-    let f = h0 .before .before .before .before in
-    let st = f .before .before .before .before .before .before in
-    let x = st .args in
-    same-address (x .rx) (x .form .now) (x .store .now) (sym (f .before .before .before .is-good .ensures) ∙ not-false _ (f .before .before .if1 .left)) (f .before .if2 .left) (f .if3 .left) _ _ (first-block (x .form .now)) (second-block (x .form .now))
-    (sym (h0 .before .header-good .ensures) ∙ not-false _ (h0 .if4 .left)) (sym (h1 .before .header-good2 .ensures) ∙ not-false _ (h1 .if5 .left)) _ _
-    (l .before .before .before .receiver-in .ensures) (l .before .before .store-in .ensures) (sym (l .before .layout-kept .ensures) ∙ not-false _ (l .if6 .left)) (c .if7 .left)
+returns-5 : tie.Need-returns-5
+returns-5 c =
+    let k1 = c .before .before .before in
+    let k2 = k1 .before .before in
+    let k3 = k2 .before .before in
+    let k4 = k3 .before .before .before .before in
+    let k5 = k4 .before .before .before .before in
+    let x = k5 .args in
+    c .address-number .ensures
+    ∙ by-address (x .rx) (x .form .now) (x .store .now) (sym (k4 .before .usable .ensures) ∙ not-false _ (k4 .if1 .left)) _ _ (first-block (x .form .now)) (second-block (x .form .now))
+    (sym (k3 .before .header-good .ensures) ∙ not-false _ (k3 .if2 .left)) (sym (k2 .before .header-good2 .ensures) ∙ not-false _ (k2 .if3 .left)) _ _
+    (k1 .before .receiver-in .ensures) (k1 .store-in .ensures) (sym (c .before .before .layout-kept .ensures) ∙ not-false _ (c .before .if4 .left))
 
 pub number-of-spec : {M : Type 1} → statement M
 number-of-spec =
     tie.close
     (tie.spec
-    is-good-requires
+    usable-requires
     returns
-    returns-2
-    returns-3
     slice-aggregate-a
     sub-b
     part-b-start
     part-b-end
     header-good-requires
-    returns-4
+    returns-2
     header-good-requires-2
-    returns-5
+    returns-3
     receiver-in-requires
     store-in-requires
     layout-kept-requires
-    returns-6
-    returns-7
-    returns-8)
+    returns-4
+    address-number-requires
+    returns-5)

@@ -1,101 +1,66 @@
 -- `stored::restoring::receiver_in` meets its contract.
 -- Assumes nothing.
-use borrow.Author.Needs.{needs}
-use Rattle.stored.proofs.StoreReading.{receiver-is}
 use native.Mathlib.Omega.{arith}
+use Rattle.stored.proofs.StoreReading.{receiver-is}
+use borrow.Author.Needs.{needs}
 use Rattle.stored.proofs.restoring.receiver_in.Statement.{statement}
 use Rattle.stored.proofs.restoring.receiver_in.Tie as tie
 
-shared-slice-read-radio-address : tie.Need-shared-slice-read-radio-address
-shared-slice-read-radio-address c = search needs
+address-at-requires : tie.Need-address-at-requires
+address-at-requires c κs = search needs
 
-shared-slice-read-radio-address-2 : tie.Need-shared-slice-read-radio-address-2
-shared-slice-read-radio-address-2 c = search needs
+address-at-requires-2 : tie.Need-address-at-requires-2
+address-at-requires-2 c κs = search needs
 
-shared-slice-read-radio-address-3 : tie.Need-shared-slice-read-radio-address-3
-shared-slice-read-radio-address-3 c = search needs
+shared-slice-read-t7 : tie.Need-shared-slice-read-t7
+shared-slice-read-t7 c = search needs
 
-radio-address-requires : tie.Need-radio-address-requires
-radio-address-requires c κs = search needs
+shared-slice-read-t9 : tie.Need-shared-slice-read-t9
+shared-slice-read-t9 c = search needs
 
-shared-slice-read-radio-address-4 : tie.Need-shared-slice-read-radio-address-4
-shared-slice-read-radio-address-4 c = search needs
+shared-slice-read-t11 : tie.Need-shared-slice-read-t11
+shared-slice-read-t11 c = search needs
 
-shared-slice-read-radio-address-5 : tie.Need-shared-slice-read-radio-address-5
-shared-slice-read-radio-address-5 c = search needs
+shared-slice-read-t13 : tie.Need-shared-slice-read-t13
+shared-slice-read-t13 c = search needs
 
-shared-slice-read-radio-address-6 : tie.Need-shared-slice-read-radio-address-6
-shared-slice-read-radio-address-6 c = search needs
+slice-aggregate-put : tie.Need-slice-aggregate-put
+slice-aggregate-put c = search needs
 
-radio-address-requires-2 : tie.Need-radio-address-requires-2
-radio-address-requires-2 c κs = search needs
+sub-put : tie.Need-sub-put
+sub-put c = search needs
 
-shared-slice-read-t6 : tie.Need-shared-slice-read-t6
-shared-slice-read-t6 c = search needs
+part-put-start : tie.Need-part-put-start
+part-put-start c = search needs
 
-shared-slice-read-t8 : tie.Need-shared-slice-read-t8
-shared-slice-read-t8 c = search needs
+part-put-end : tie.Need-part-put-end
+part-put-end c = search needs
 
-shared-slice-read-t10 : tie.Need-shared-slice-read-t10
-shared-slice-read-t10 c = search needs
+put-requires : tie.Need-put-requires
+put-requires c κs = search needs
 
-shared-slice-read-t18 : tie.Need-shared-slice-read-t18
-shared-slice-read-t18 c = search needs
-
-shared-slice-read-t6-2 : tie.Need-shared-slice-read-t6-2
-shared-slice-read-t6-2 c = search needs
-
-shared-slice-read-t18-2 : tie.Need-shared-slice-read-t18-2
-shared-slice-read-t18-2 c = search needs
-
-shared-slice-read-t10-2 : tie.Need-shared-slice-read-t10-2
-shared-slice-read-t10-2 c = search needs
-
-shared-slice-read-t8-2 : tie.Need-shared-slice-read-t8-2
-shared-slice-read-t8-2 c = search needs
-
-shared-slice-read-t24 : tie.Need-shared-slice-read-t24
-shared-slice-read-t24 c = search needs
-
-shared-slice-read-t26 : tie.Need-shared-slice-read-t26
-shared-slice-read-t26 c = search needs
-
-shared-slice-read-t28 : tie.Need-shared-slice-read-t28
-shared-slice-read-t28 c = search needs
-
-shared-slice-read-t30 : tie.Need-shared-slice-read-t30
-shared-slice-read-t30 c = search needs
-
-shared-slice-read-t32 : tie.Need-shared-slice-read-t32
-shared-slice-read-t32 c = search needs
+shared-slice-read-t7-2 : tie.Need-shared-slice-read-t7-2
+shared-slice-read-t7-2 c = search needs
 
 returns : tie.Need-returns
 returns c =
-    receiver-is _ _ _ (omega arith) (c .before .before .before .before .before .before .before .before .before .before .before .before .before .before .before .before .before .radio-address .ensures) (c .before .before .before .before .before .before .before .before .before .before .before .before .before .radio-address2 .ensures)
+    let k1 = c .before .before .before .before .before .before .before .before .before in
+    receiver-is _ _ _ _ (omega arith) (k1 .before .address-at .ensures) (k1 .address-at2 .ensures) (c .before .before .put .ensures)
 
 pub receiver-in-spec : {M : Type 1} → statement M
 receiver-in-spec =
     tie.close
     (tie.spec
-    shared-slice-read-radio-address
-    shared-slice-read-radio-address-2
-    shared-slice-read-radio-address-3
-    radio-address-requires
-    shared-slice-read-radio-address-4
-    shared-slice-read-radio-address-5
-    shared-slice-read-radio-address-6
-    radio-address-requires-2
-    shared-slice-read-t6
-    shared-slice-read-t8
-    shared-slice-read-t10
-    shared-slice-read-t18
-    shared-slice-read-t6-2
-    shared-slice-read-t18-2
-    shared-slice-read-t10-2
-    shared-slice-read-t8-2
-    shared-slice-read-t24
-    shared-slice-read-t26
-    shared-slice-read-t28
-    shared-slice-read-t30
-    shared-slice-read-t32
+    address-at-requires
+    address-at-requires-2
+    shared-slice-read-t7
+    shared-slice-read-t9
+    shared-slice-read-t11
+    shared-slice-read-t13
+    slice-aggregate-put
+    sub-put
+    part-put-start
+    part-put-end
+    put-requires
+    shared-slice-read-t7-2
     returns)

@@ -2,9 +2,10 @@
 -- Assumes nothing.
 use mathlib.Core.Path.{sym, _∙_}
 use native.Mathlib.Omega.{arith}
-use borrow.Author.Needs.{needs}
+use Rattle.foundation.proofs.Copying.{put-all}
 use Rattle.stored.proofs.Claims.{claims}
 use Rattle.stored.proofs.Numbers.{first-block, second-block, block-sizes, sizes, restored-refused, restored-taken}
+use borrow.Author.Needs.{needs}
 use Rattle.stored.proofs.restoring.restore.Statement.{statement}
 use Rattle.stored.proofs.restoring.restore.Tie as tie
 
@@ -16,58 +17,59 @@ same-length c = search needs
 
 returns : tie.Need-returns
 returns c =
-    let x = c .before .before .before .before .before .args in
+    let k1 = c .before .before .before .before in
+    let x = k1 .before .args in
     let p = restored-refused (x .rx) (x .form .now) (x .store .now) _ (c .before .number-of .ensures) (c .if1 .taken) in
-    (p .0, p .1, claims .saves-back (x .rx) (x .form .now) (x .store .now) (λ i. omega (arith, c .before .before .before .before .shared-slice-known .given i)))
+    (p .0, p .1, claims .saves-back (x .rx) (x .form .now) (x .store .now) (λ i. omega (arith, k1 .shared-slice-known .given i)))
 
 slice-aggregate-a : tie.Need-slice-aggregate-a
 slice-aggregate-a c =
-    let x = c .before .before .before .before .before .before .args in
-    let e = sym (c .before .before .number-of .ensures) ∙ c .before .if1 .left in
-    sym (block-sizes (x .form .now) (sizes (x .rx) (x .form .now) (x .store .now) e .1) .0)
+    let k1 = c .before .before .before .before .before .before in
+    let x = k1 .args in sym (block-sizes (x .form .now) (sizes (x .rx) (x .form .now) (x .store .now) (sym (c .before .before .number-of .ensures) ∙ c .before .if1 .left) .1) .0)
 
 sub-b : tie.Need-sub-b
 sub-b c =
-    let x = c .before .before .before .before .before .before .args in
-    let e = sym (c .before .before .number-of .ensures) ∙ c .before .if1 .left in
-    omega (arith, sizes (x .rx) (x .form .now) (x .store .now) e .1)
+    let k1 = c .before .before .before .before .before .before in
+    let x = k1 .args in omega (arith, sizes (x .rx) (x .form .now) (x .store .now) (sym (c .before .before .number-of .ensures) ∙ c .before .if1 .left) .1)
 
 part-b-start : tie.Need-part-b-start
 part-b-start c =
-    let x = c .before .before .before .before .before .before .args in
-    let e = sym (c .before .before .number-of .ensures) ∙ c .before .if1 .left in
-    omega (arith, sizes (x .rx) (x .form .now) (x .store .now) e .1)
+    let k1 = c .before .before .before .before .before .before in
+    let x = k1 .args in omega (arith, sizes (x .rx) (x .form .now) (x .store .now) (sym (c .before .before .number-of .ensures) ∙ c .before .if1 .left) .1)
 
 part-b-end : tie.Need-part-b-end
 part-b-end c = search needs
 
 receiver-in-requires : tie.Need-receiver-in-requires
 receiver-in-requires c κs =
-    let x = c .before .before .before .before .before .before .before .args in
-    let e = sym (c .before .before .before .number-of .ensures) ∙ c .before .before .if1 .left in
-    block-sizes (x .form .now) (sizes (x .rx) (x .form .now) (x .store .now) e .1) .0
+    let k1 = c .before .before .before in
+    let k2 = k1 .before .before .before .before in
+    let x = k2 .args in block-sizes (x .form .now) (sizes (x .rx) (x .form .now) (x .store .now) (sym (k1 .number-of .ensures) ∙ c .before .before .if1 .left) .1) .0
 
 store-in-requires : tie.Need-store-in-requires
 store-in-requires c κs =
-    let x = c .before .before .before .before .before .before .before .before .before .args in
-    let e = sym (c .before .before .before .before .before .number-of .ensures) ∙ c .before .before .before .before .if1 .left in
-    block-sizes (x .form .now) (sizes (x .rx) (x .form .now) (x .store .now) e .1)
+    let k1 = c .before .before .before in
+    let k2 = k1 .before .before .before .before .before in
+    let x = k2 .args in block-sizes (x .form .now) (sizes (x .rx) (x .form .now) (x .store .now) (sym (k1 .before .number-of .ensures) ∙ k1 .if1 .left) .1)
 
-put-store-requires : tie.Need-put-store-requires
-put-store-requires c κs =
-    let x = c .before .before .before .before .before .before .before .before .before .before .args in
-    let e = sym (c .before .before .before .before .before .before .number-of .ensures) ∙ c .before .before .before .before .before .if1 .left in
-    sizes (x .rx) (x .form .now) (x .store .now) e .0
+slice-aggregate-put : tie.Need-slice-aggregate-put
+slice-aggregate-put c = search needs
+
+put-requires : tie.Need-put-requires
+put-requires c κs = search needs
 
 same-length-2 : tie.Need-same-length-2
 same-length-2 c = search needs
 
 returns-2 : tie.Need-returns-2
 returns-2 c =
-    let x = c .before .before .before .before .before .before .before .before .before .before .before .before .before .args in
-    let e = sym (c .before .before .before .before .before .before .before .before .before .number-of .ensures) ∙ c .before .before .before .before .before .before .before .before .if1 .left in
-    let p = restored-taken (x .rx) (x .form .now) (x .store .now) e _ _ _ _ (first-block (x .form .now)) (second-block (x .form .now)) (c .before .before .before .before .before .receiver-in .ensures) (c .before .before .before .store-in .ensures) in
-    (p .0, c .before .before .put-store .ensures ∙ p .1, claims .saves-back (x .rx) (x .form .now) (x .store .now) (λ i. omega (arith, c .before .before .before .before .before .before .before .before .before .before .before .before .shared-slice-known .given i)))
+    let k1 = c .before .before .before .before .before in
+    let k2 = k1 .before .before .before .before in
+    let k3 = k2 .before .before .before .before in
+    let x = k3 .before .args in
+    let e = sym (k2 .before .number-of .ensures) ∙ k2 .if1 .left in
+    let p = restored-taken (x .rx) (x .form .now) (x .store .now) e _ _ _ _ (first-block (x .form .now)) (second-block (x .form .now)) (k1 .before .receiver-in .ensures) (k1 .store-in .ensures) in
+    (p .0, c .before .before .put .ensures ∙ put-all (x .store .now) _ (omega (arith, sizes (x .rx) (x .form .now) (x .store .now) e .0)) ∙ p .1, claims .saves-back (x .rx) (x .form .now) (x .store .now) (λ i. omega (arith, k3 .shared-slice-known .given i)))
 
 pub restore-spec : {M : Type 1} → statement M
 restore-spec =
@@ -82,6 +84,7 @@ restore-spec =
     part-b-end
     receiver-in-requires
     store-in-requires
-    put-store-requires
+    slice-aggregate-put
+    put-requires
     same-length-2
     returns-2)

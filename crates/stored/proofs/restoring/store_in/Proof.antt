@@ -1,60 +1,68 @@
--- `stored::restoring::store_in` meets its contract: the first i octets are written.
+-- `stored::restoring::store_in` meets its contract.
 -- Assumes nothing.
-use Prim.Native.Nat.{ℕ, _-_}
-use mathlib.Core.Path.{_≡_}
-use native.Mathlib.Omega.{arith}
-use borrow.Author.Needs.{needs}
-use lib.ListN.{length, length-replicate}
+use Prim.Native.Nat.{ℕ}
+use mathlib.Core.Path.{ap, _∙_}
+use mathlib.Core.List.{List}
+use lib.ListN.{replicate, length-replicate}
 use Rattle.receiver_state.specs.Receiver.{storeSize}
-use Rattle.stored.specs.Stored.{storeIn}
-use Rattle.stored.proofs.StoreReading.{length-storeIn}
-use Rattle.foundation.proofs.Copying.{Copied, copied-start, anew-more, anew-done}
+use Rattle.foundation.specs.Octets.{put}
+use Rattle.stored.specs.Stored.{firstPart}
+use Rattle.stored.proofs.StoreReading.{part1, store-is}
+use borrow.Author.Needs.{needs}
 use Rattle.stored.proofs.restoring.store_in.Statement.{statement}
 use Rattle.stored.proofs.restoring.store_in.Tie as tie
 
-abbrev Inv-loop : tie.InvT-loop
-Inv-loop a b store₀ i₀ store i = (length store₀ ≡ storeSize) × Copied store₀ 0 (storeIn a b) i store
+slice-aggregate-put : tie.Need-slice-aggregate-put
+slice-aggregate-put c = search needs
 
-abbrev μ-loop : tie.MeasureT-loop
-μ-loop a b store₀ i₀ store i = storeSize - i
+sub-put : tie.Need-sub-put
+sub-put c = search needs
 
-loop-holds : tie.Need-loop-holds Inv-loop μ-loop
-loop-holds c = (length-replicate {A = ℕ} storeSize 0, copied-start _ _ _)
+part-put-start : tie.Need-part-put-start
+part-put-start c = search needs
 
-octet-in-requires : tie.Need-octet-in-requires Inv-loop μ-loop
-octet-in-requires c κs = search needs
+part-put-end : tie.Need-part-put-end
+part-put-end c = search needs
 
-array-write-store : tie.Need-array-write-store Inv-loop μ-loop
-array-write-store c = search needs
+put-requires : tie.Need-put-requires
+put-requires c κs = search needs
 
-add-i : tie.Need-add-i Inv-loop μ-loop
-add-i c = search needs
+slice-aggregate-put-2 : tie.Need-slice-aggregate-put-2
+slice-aggregate-put-2 c = search needs
 
-loop-less : tie.Need-loop-less Inv-loop μ-loop
-loop-less c = search needs
+sub-put-2 : tie.Need-sub-put-2
+sub-put-2 c = search needs
 
-loop-again : tie.Need-loop-again Inv-loop μ-loop
-loop-again c =
-    let st = c .before .before .before .before .before in
-    let l = c .before .before .loop in
-    (l .inv .0, anew-more _ _ (omega (arith, length-storeIn (st .args .a .now) (st .args .b .now) (st .pre .0) (st .pre .1))) (l .i) (l .store) (l .inv .1) _ (omega (arith, length-storeIn (st .args .a .now) (st .args .b .now) (st .pre .0) (st .pre .1))) (c .octet-in .ensures))
+part-put-start-2 : tie.Need-part-put-start-2
+part-put-start-2 c = search needs
 
-returns : tie.Need-returns Inv-loop μ-loop
+part-put-end-2 : tie.Need-part-put-end-2
+part-put-end-2 c = search needs
+
+put-requires-2 : tie.Need-put-requires-2
+put-requires-2 c κs = search needs
+
+returns : tie.Need-returns
 returns c =
-    let st = c .before .before .before .before in
-    let l = c .before .loop in
-    anew-done _ _ (omega (arith, length-storeIn (st .args .a .now) (st .args .b .now) (st .pre .0) (st .pre .1))) (l .i) (l .store) (l .inv .1) (omega (arith, length-storeIn (st .args .a .now) (st .args .b .now) (st .pre .0) (st .pre .1)))
+    let k1 = c .before .before .before .before .before in
+    let k2 = k1 .before .before .before .before .before in
+    let x = k2 .args in
+    let p = k2 .pre in
+    store-is (x .a .now) (x .b .now) (p .0) (p .1) (replicate storeSize 0) _ (length-replicate {A = ℕ} storeSize 0)
+    (c .before .put2 .ensures ∙ ap (λ (l : List ℕ). put l firstPart (part1 (x .b .now))) (k1 .put .ensures))
 
 pub store-in-spec : {M : Type 1} → statement M
 store-in-spec =
     tie.close
     (tie.spec
-    Inv-loop
-    μ-loop
-    loop-holds
-    octet-in-requires
-    array-write-store
-    add-i
-    loop-less
-    loop-again
+    slice-aggregate-put
+    sub-put
+    part-put-start
+    part-put-end
+    put-requires
+    slice-aggregate-put-2
+    sub-put-2
+    part-put-start-2
+    part-put-end-2
+    put-requires-2
     returns)

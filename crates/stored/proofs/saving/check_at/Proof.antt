@@ -4,9 +4,9 @@ use Prim.Native.Nat.{ℕ, _+_, _-_, _/_, _%_}
 use mathlib.Core.Path.{_≡_, ap, _∙_}
 use mathlib.Core.List.{[], _∷_}
 use native.Mathlib.Omega.{arith}
-use borrow.Author.Needs.{needs}
 use Rattle.stored.specs.Stored.{checkedSize}
-use Rattle.foundation.specs.Octets.{over}
+use Rattle.foundation.specs.Octets.{put}
+use borrow.Author.Needs.{needs}
 use Rattle.stored.proofs.saving.check_at.Statement.{statement}
 use Rattle.stored.proofs.saving.check_at.Tie as tie
 
@@ -31,21 +31,23 @@ cast-t11 c = search needs
 cast-t13 : tie.Need-cast-t13
 cast-t13 c = search needs
 
-slice-aggregate-copy-at : tie.Need-slice-aggregate-copy-at
-slice-aggregate-copy-at c = search needs
+slice-aggregate-put : tie.Need-slice-aggregate-put
+slice-aggregate-put c = search needs
 
-copy-at-requires : tie.Need-copy-at-requires
-copy-at-requires c κs = search needs
+put-requires : tie.Need-put-requires
+put-requires c κs = search needs
 
 same-length : tie.Need-same-length
 same-length c = search needs
 
 returns : tie.Need-returns
 returns c =
-    let st = c .before .before .before .before .before .before .before .before .before in
-    let k : st .args .at + checkedSize - st .args .at ≡ checkedSize = omega arith in
-    c .before .before .copy-at .ensures
-    ∙ ap (λ (x : ℕ). over (st .args .to .now) (st .args .at + checkedSize) (x / 256 ∷ x % 256 ∷ [])) (rw k at (c .before .before .before .before .before .header .ensures .0))
+    let k1 = c .before .before .before .before .before in
+    let k2 = k1 .before .before .before .before in
+    let x = k2 .args in
+    let k : x .at + checkedSize - x .at ≡ checkedSize = omega arith in
+    c .before .before .put .ensures
+    ∙ ap (λ (n : ℕ). put (x .to .now) (x .at + checkedSize) (n / 256 ∷ n % 256 ∷ [])) (rw k at (k1 .header .ensures .0))
 
 pub check-at-spec : {M : Type 1} → statement M
 check-at-spec =
@@ -58,7 +60,7 @@ check-at-spec =
     header-requires
     cast-t11
     cast-t13
-    slice-aggregate-copy-at
-    copy-at-requires
+    slice-aggregate-put
+    put-requires
     same-length
     returns)

@@ -1,60 +1,16 @@
 -- `transactions::flags::all_below` meets its contract.
 -- Assumes nothing.
-use mathlib.Core.Path.{_≡_, refl, sym, ap, _∙_}
-use Prim.Native.Nat.{ℕ}
-use native.Mathlib.Omega.{arith}
+use mathlib.Core.Path.{_∙_}
 use borrow.Author.Needs.{needs}
-use borrow.Author.Tests.{not-true, not-false}
-use Rattle.foundation.specs.Order.{every}
-use Rattle.transactions.specs.Flags.{flagged}
-use Rattle.foundation.proofs.Order.{every-stops, every-goes}
+use Rattle.transactions.proofs.FlagOctets.{all-flagged}
 use Rattle.transactions.proofs.flags.all_below.Statement.{statement}
 use Rattle.transactions.proofs.flags.all_below.Tie as tie
 
-abbrev Inv-loop : tie.InvT-loop
-Inv-loop flags n i₀ i = every n (flagged flags) ≡ every i (flagged flags)
+every-below-requires : tie.Need-every-below-requires
+every-below-requires c κs = search needs
 
-abbrev μ-loop : tie.MeasureT-loop
-μ-loop flags n i₀ i = i
-
-loop-holds : tie.Need-loop-holds Inv-loop μ-loop
-loop-holds c = refl
-
-sub-i : tie.Need-sub-i Inv-loop μ-loop
-sub-i c = omega arith
-
-is-set-requires : tie.Need-is-set-requires Inv-loop μ-loop
-is-set-requires c κs = search needs
-
-returns : tie.Need-returns Inv-loop μ-loop
-returns c =
-    let l = c .before .before .before .loop in
-    sym (l .inv ∙ every-stops (flagged (c .before .before .before .before .args .flags)) (l .i) (omega arith) (sym (c .before .is-set .ensures) ∙ not-true _ (c .if1 .taken)))
-
-loop-less : tie.Need-loop-less Inv-loop μ-loop
-loop-less c = omega arith
-
-loop-again : tie.Need-loop-again Inv-loop μ-loop
-loop-again c =
-    let l = c .before .before .before .loop in
-    l .inv ∙ every-goes (flagged (c .before .before .before .before .args .flags)) (l .i) (omega arith) (sym (c .before .is-set .ensures) ∙ not-false _ (c .if1 .left))
-
-returns-2 : tie.Need-returns-2 Inv-loop μ-loop
-returns-2 c =
-    let l = c .before .loop in
-    let done : l .i ≡ 0 = omega arith in
-    sym (l .inv ∙ ap (λ (i : ℕ). every i (flagged (c .before .before .args .flags))) done)
+returns : tie.Need-returns
+returns c = let a = c .before .args in c .every-below .ensures ∙ all-flagged (a .flags) (a .n)
 
 pub all-below-spec : {M : Type 1} → statement M
-all-below-spec =
-    tie.close
-    (tie.spec
-    Inv-loop
-    μ-loop
-    loop-holds
-    sub-i
-    is-set-requires
-    returns
-    loop-less
-    loop-again
-    returns-2)
+all-below-spec = tie.close (tie.spec every-below-requires returns)
