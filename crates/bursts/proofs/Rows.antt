@@ -7,7 +7,6 @@ use mathlib.Core.Logic.{_⊎_, inl, inr, _≢_, _↔_}
 use Prim.Native.Nat.{ℕ, _%_, _≤_, _<_}
 use native.Mathlib.Decide.{ℕ-discrete, decLt}
 use native.Mathlib.Omega.{arith}
-use lib.Dec.{lit<}
 use lib.ListN.{length}
 use borrow.Author.Tests.{eq-eqb}
 use Rattle.foundation.specs.Order.{firstFailed}
@@ -17,7 +16,7 @@ use Rattle.codes.specs.declared.slot_type.SlotType.{SlotType}
 use Rattle.codes.specs.declared.slot_type.SlotType.the-variants.{Data, NoCodeword, TooWide}
 use Rattle.codes.proofs.SlotReading.{reads-near}
 use Rattle.bursts.specs.Bursts.{kindOf, known, slotBits, fieldOf, readBurst, writeBurst}
-use Rattle.bursts.specs.BurstClaims.{Near, Untyped, OtherType, FieldGives}
+use Rattle.bursts.specs.BurstClaims.{Near, Untyped, OtherType, FieldGives, BurstRow, burst-size, slot-type, data-type, field-good, field-code, field-reserved}
 use Rattle.bursts.specs.declared.burst.Sync.{Sync}
 use Rattle.bursts.proofs.Variants.{slotGood}
 use Rattle.bursts.proofs.Numbers.{slot-read, near-slot, field-read, number-size, number-slot, number-type, number-field, read-number, write-wide, write-other, write-good}
@@ -40,11 +39,9 @@ field-numbers f h = rw (eq-eqb (length f) 25 h) (go (rowsGood m) (columnsGood m)
     go true false z = inr (inl refl)
     go false y z = inr (inl refl)
 
--- none of them is another row's
-pub excluded : (n k : ℕ) → FieldNumber n → 0 < k → k < 6 → n ≡ k → ⊥
-excluded n k (inl e) p q f = omega arith
-excluded n k (inr (inl e)) p q f = omega arith
-excluded n k (inr (inr e)) p q f = omega arith
+-- where row k is true, and gives its number, row n is true exactly if its number is given
+pub exactly : (Row : ℕ → Type 0) (m k n : ℕ) → Row k → m ≡ k → (Row n → m ≡ n) → (m ≡ n) ↔ Row n
+exactly Row m k n r is gives = (λ e. subst Row (sym is ∙ e) r, gives)
 
 module _ (b : List ℕ) where
   -- each row gives its number
@@ -69,62 +66,23 @@ module _ (b : List ℕ) where
   field-rule n (h, d, near, kind, e) =
       read-number b ∙ number-field b d h (near-slot b d h near) kind ∙ sym (ap (λ x. x .number) (field-read b h)) ∙ e
 
-  -- what a number says of b
-  record Says (n : ℕ) : Type 0 where
-    one : n ≡ 1 → length b ≢ 33
-    four : n ≡ 4 → Untyped b
-    five : n ≡ 5 → OtherType b
-    field : (n ≡ 1 → ⊥) → (n ≡ 4 → ⊥) → (n ≡ 5 → ⊥) → FieldGives n b
-    listed : (n ≡ 0) ⊎ (n ≡ 1) ⊎ (n ≡ 4) ⊎ (n ≡ 5) ⊎ (n ≡ 6) ⊎ (n ≡ 7)
+  row-number : (n : ℕ) → BurstRow b n → readBurst b .number ≡ n
+  row-number _ (burst-size h) = one-rule h
+  row-number _ (slot-type h) = four-rule h
+  row-number _ (data-type h) = five-rule h
+  row-number _ (field-good h) = field-rule 0 h
+  row-number _ (field-code h) = field-rule 6 h
+  row-number _ (field-reserved h) = field-rule 7 h
 
-  one-says : length b ≢ 33 → Says 1
-  one-says h = record {
-    one = λ e. h;
-    four = λ e. absurd (omega arith);
-    five = λ e. absurd (omega arith);
-    field = λ p q r. absurd (p refl);
-    listed = inr (inl refl);
-  }
+  -- one of the rows is true: by the block field, where the data type is known
+  field-row : (n : ℕ) → FieldGives n b → FieldNumber n → (n : ℕ) × BurstRow b n
+  field-row n h (inl e) = (0, field-good (subst (λ (k : ℕ). FieldGives k b) e h))
+  field-row n h (inr (inl e)) = (6, field-code (subst (λ (k : ℕ). FieldGives k b) e h))
+  field-row n h (inr (inr e)) = (7, field-reserved (subst (λ (k : ℕ). FieldGives k b) e h))
 
-  four-says : Untyped b → Says 4
-  four-says h = record {
-    one = λ e. absurd (omega arith);
-    four = λ e. h;
-    five = λ e. absurd (omega arith);
-    field = λ p q r. absurd (q refl);
-    listed = inr (inr (inl refl));
-  }
-
-  five-says : OtherType b → Says 5
-  five-says h = record {
-    one = λ e. absurd (omega arith);
-    four = λ e. absurd (omega arith);
-    five = λ e. h;
-    field = λ p q r. absurd (r refl);
-    listed = inr (inr (inr (inl refl)));
-  }
-
-  field-says : (n : ℕ) → FieldGives n b → FieldNumber n → Says n
-  field-says n h l = record {
-    one = λ e. absurd (excluded n 1 l (lit< tt) (lit< tt) e);
-    four = λ e. absurd (excluded n 4 l (lit< tt) (lit< tt) e);
-    five = λ e. absurd (excluded n 5 l (lit< tt) (lit< tt) e);
-    field = λ p q r. h;
-    listed = go l;
-  }
-    where
-      go : FieldNumber n → (n ≡ 0) ⊎ (n ≡ 1) ⊎ (n ≡ 4) ⊎ (n ≡ 5) ⊎ (n ≡ 6) ⊎ (n ≡ 7)
-      go (inl e) = inl e
-      go (inr (inl e)) = inr (inr (inr (inr (inl e))))
-      go (inr (inr e)) = inr (inr (inr (inr (inr e))))
-
-  -- the number of b says it: by the data type, where there is a slot type
-  typed-says : (d : ℕ) → length b ≡ 33 → Near b d → (k : Bool) → known (kindOf (d % 16)) ≡ k → Says (readBurst b .number)
-  typed-says d h near true k =
-      let n = fieldNumber (fieldOf b) in
-      let f : FieldGives n b = (h, d, near, k, refl) in
-      subst Says (sym (field-rule n f)) (field-says n f (field-numbers (fieldOf b) (field-length b)))
-  typed-says d h near false k = let o : OtherType b = (h, d, near, k) in subst Says (sym (five-rule o)) (five-says o)
+  typed-row : (d : ℕ) → length b ≡ 33 → Near b d → (k : Bool) → known (kindOf (d % 16)) ≡ k → (n : ℕ) × BurstRow b n
+  typed-row d h near true k = field-row (fieldNumber (fieldOf b)) (h, d, near, k, refl) (field-numbers (fieldOf b) (field-length b))
+  typed-row d h near false k = (5, data-type (h, d, near, k))
 
   -- no codeword is near where the slot type is refused
   untyped : length b ≡ 33 → slotGood (readSlotType (slotBits b)) ≡ false → Untyped b
@@ -137,48 +95,20 @@ module _ (b : List ℕ) where
           let z : _≡_ {A = ℕ} 0 1 = cc in
           omega arith
 
-  untyped-says : Untyped b → Says (readBurst b .number)
-  untyped-says u = subst Says (sym (four-rule u)) (four-says u)
-
-  slot-says : length b ≡ 33 → (s : SlotType) → readSlotType (slotBits b) ≡ s → Says (readBurst b .number)
+  slot-row : length b ≡ 33 → (s : SlotType) → readSlotType (slotBits b) ≡ s → (n : ℕ) × BurstRow b n
   unfolding slotNumber
-  slot-says h (Data d) e = let n = reads-near (slotBits b) d e in typed-says d h (n .0, n .2) (known (kindOf (d % 16))) refl
-  slot-says h NoCodeword e = untyped-says (untyped h (ap slotGood e))
-  slot-says h TooWide e = untyped-says (untyped h (ap slotGood e))
+  slot-row h (Data d) e = let n = reads-near (slotBits b) d e in typed-row d h (n .0, n .2) (known (kindOf (d % 16))) refl
+  slot-row h NoCodeword e = (4, slot-type (untyped h (ap slotGood e)))
+  slot-row h TooWide e = (4, slot-type (untyped h (ap slotGood e)))
 
-  size-says : Dec (length b ≡ 33) → Says (readBurst b .number)
-  size-says (yes h) = slot-says h (readSlotType (slotBits b)) refl
-  size-says (no h) = subst Says (sym (one-rule h)) (one-says h)
+  some-row : Dec (length b ≡ 33) → (n : ℕ) × BurstRow b n
+  some-row (yes h) = slot-row h (readSlotType (slotBits b)) refl
+  some-row (no h) = (1, burst-size h)
 
-  says : Says (readBurst b .number)
-  says = size-says (ℕ-discrete (length b) 33)
-
-  -- so the rows and the numbers agree
-
-  pub one : (readBurst b .number ≡ 1) ↔ (length b ≢ 33)
-  one = (says .one, one-rule)
-
-  pub four : (readBurst b .number ≡ 4) ↔ Untyped b
-  four = (says .four, four-rule)
-
-  pub five : (readBurst b .number ≡ 5) ↔ OtherType b
-  five = (says .five, five-rule)
-
-  field-row : (n : ℕ) → (n ≡ 1 → ⊥) → (n ≡ 4 → ⊥) → (n ≡ 5 → ⊥) → (readBurst b .number ≡ n) ↔ FieldGives n b
-  field-row n p q r =
-      (λ e. subst (λ (k : ℕ). FieldGives k b) e (says .field (λ f. p (sym e ∙ f)) (λ f. q (sym e ∙ f)) (λ f. r (sym e ∙ f))), field-rule n)
-
-  pub zero : (readBurst b .number ≡ 0) ↔ FieldGives 0 b
-  zero = field-row 0 (λ e. omega arith) (λ e. omega arith) (λ e. omega arith)
-
-  pub six : (readBurst b .number ≡ 6) ↔ FieldGives 6 b
-  six = field-row 6 (λ e. omega arith) (λ e. omega arith) (λ e. omega arith)
-
-  pub seven : (readBurst b .number ≡ 7) ↔ FieldGives 7 b
-  seven = field-row 7 (λ e. omega arith) (λ e. omega arith) (λ e. omega arith)
-
-  pub no-other : let n = readBurst b .number in (n ≡ 0) ⊎ (n ≡ 1) ⊎ (n ≡ 4) ⊎ (n ≡ 5) ⊎ (n ≡ 6) ⊎ (n ≡ 7)
-  no-other = says .listed
+  pub numbers : (n : ℕ) → (readBurst b .number ≡ n) ↔ BurstRow b n
+  numbers n =
+      let (k, r) : (n : ℕ) × BurstRow b n = some-row (ℕ-discrete (length b) 33) in
+      exactly (BurstRow b) (readBurst b .number) k n r (row-number k r) (row-number n)
 
 -- ---- writing
 

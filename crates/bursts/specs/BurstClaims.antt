@@ -27,6 +27,15 @@ OtherType b = (length b ≡ 33) × (d : ℕ) × Near b d × (known (kindOf (d % 
 abbrev pub FieldGives : ℕ → List ℕ → Type 0
 FieldGives n b = (length b ≡ 33) × (d : ℕ) × Near b d × (known (kindOf (d % 16)) ≡ true) × (fieldNumber (fieldOf b) ≡ n)
 
+-- when reading gives which number
+pub data BurstRow (b : List ℕ) : ℕ → Type 0 where
+  burst-size : length b ≢ 33 → BurstRow b 1
+  slot-type : Untyped b → BurstRow b 4
+  data-type : OtherType b → BurstRow b 5
+  field-good : FieldGives 0 b → BurstRow b 0
+  field-code : FieldGives 6 b → BurstRow b 6
+  field-reserved : FieldGives 7 b → BurstRow b 7
+
 -- the burst `sent`, with at most three wrong slot-type bits and a block field in which at most one of the 15 columns holds more than one
 -- wrong bit, comes back with this colour code, data type and information
 abbrev pub BurstComesBack : ℕ → ℕ → List ℕ → List ℕ → Type 0
@@ -47,13 +56,7 @@ pub record BurstClaims : Type 0 where
   pub comes-back : (colour type : ℕ) (info : List ℕ) (sync : Sync) → colour < 16 → known (kindOf type) ≡ true → length info ≡ 12
       → ((j : ℕ) → getD info j 0 < 256) → BurstComesBack colour type info (writtenBurst colour type info sync)
   -- each number of reading is given exactly if its row is true, and there are no others
-  pub zero : (b : List ℕ) → (readBurst b .number ≡ 0) ↔ FieldGives 0 b
-  pub one : (b : List ℕ) → (readBurst b .number ≡ 1) ↔ (length b ≢ 33)
-  pub four : (b : List ℕ) → (readBurst b .number ≡ 4) ↔ Untyped b
-  pub five : (b : List ℕ) → (readBurst b .number ≡ 5) ↔ OtherType b
-  pub six : (b : List ℕ) → (readBurst b .number ≡ 6) ↔ FieldGives 6 b
-  pub seven : (b : List ℕ) → (readBurst b .number ≡ 7) ↔ FieldGives 7 b
-  pub no-other : (b : List ℕ) → let n = readBurst b .number in (n ≡ 0) ⊎ (n ≡ 1) ⊎ (n ≡ 4) ⊎ (n ≡ 5) ⊎ (n ≡ 6) ⊎ (n ≡ 7)
+  pub numbers : (b : List ℕ) (n : ℕ) → (readBurst b .number ≡ n) ↔ BurstRow b n
   -- the writer gives the octets, or 16 exactly if the colour code has more than four bits or the data type is neither 6 nor 7
   pub writes : (colour type : ℕ) (info : List ℕ) (sync : Sync) → colour < 16 → known (kindOf type) ≡ true
       → writeBurst colour type info sync ≡ record { number = 0; octets = writtenBurst colour type info sync }

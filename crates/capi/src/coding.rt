@@ -32,11 +32,11 @@ pub extern "C" fn kirruskabe_read_slot_type(word: u32, out: &mut [u8]) -> u8
 pub extern "C" fn kirruskabe_write_field(info: &[u8], out: &mut [u8]) -> u8
     ensures { λ r. ⌜ Gives 25 (fieldWritten (now (info .entry))) (now (out .entry)) r (now (out .exit)) ⌝ }
 {
-    let mut os = [0u8; 12];
-    let got = give(&mut os, 0, info);
-    if got != 0 {
+    if info.len() != 12 {
         return 1;
     }
+    let mut os = [0u8; 12];
+    foundation::octets::put(&mut os, 0, info);
     let field = codes::block_field::write(os);
     give(out, 0, &field)
 }

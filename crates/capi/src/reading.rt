@@ -61,17 +61,8 @@ pub extern "C" fn kirruskabe_read_response(header: &[u8], block: &[u8], out: &mu
     let a = messages::response::read(header, block);
     let to = addresses::radio_octets(a.destination);
     let from = addresses::radio_octets(a.source);
-    let head = [
-        a.class,
-        a.kind,
-        a.status,
-        a.sap,
-        to[0],
-        to[1],
-        to[2],
-        from[0],
-        from[1],
-        from[2],
-    ];
+    let mut head = [a.class, a.kind, a.status, a.sap, 0, 0, 0, 0, 0, 0];
+    foundation::octets::put(&mut head, 4, &to);
+    foundation::octets::put(&mut head, 7, &from);
     give_both(out, a.number, &head, &a.flags)
 }

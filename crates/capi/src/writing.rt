@@ -2,12 +2,16 @@
 ghost use mathlib.Core.Path.{_≡_};
 ghost use mathlib.Core.Bool.{cond};
 ghost use lib.Dec.{leb};
-ghost use lib.ListN.{length};
 ghost use Rattle.datagrams.specs.Datagrams.{nextSequence};
 ghost use Rattle.layouts.specs.Lent.{Gives};
 ghost use Rattle.layouts.specs.Layouts.{commonFrom, headerFrom, labelsFrom};
 ghost use Rattle.capi.specs.Answers.{messageSize, headerBefore, headerAgain, messageBlock, fieldsWritten, blockWritten, responseWritten, burstWritten, datagramWritten};
+use addresses::RepeaterNumber;
+use addresses::address_at;
+use addresses::number_at;
 use datagrams::Labels;
+use foundation::octets::at;
+use foundation::octets::put;
 use layouts::lent::give;
 use layouts::lent::give_both;
 use packets::header::Common;
@@ -78,26 +82,24 @@ pub extern "C" fn kirruskabe_message_block(message: &[u8], n: usize, out: &mut [
 
 // The fields that all formats have.
 fn common_from(f: &[u8]) -> Common
-    requires { ⌜ length (now f) ≡ 16 ⌝ }
     ensures { λ r. ⌜ r ≡ commonFrom (now (f .entry)) ⌝ }
 {
     Common {
-        group: f[1],
-        requested: f[2],
-        pad: f[3],
-        sap: f[4],
-        destination: addresses::radio_address(f[5], f[6], f[7]),
-        source: addresses::radio_address(f[8], f[9], f[10]),
-        full: f[11],
-        blocks: f[12],
+        group: at(f, 1),
+        requested: at(f, 2),
+        pad: at(f, 3),
+        sap: at(f, 4),
+        destination: address_at(f, 5),
+        source: address_at(f, 8),
+        full: at(f, 11),
+        blocks: at(f, 12),
     }
 }
 
 fn header_from(f: &[u8]) -> HeaderAnswer
-    requires { ⌜ length (now f) ≡ 16 ⌝ }
     ensures { λ r. ⌜ r ≡ headerFrom (now (f .entry)) ⌝ }
 {
-    packets::header::for_format(f[0], common_from(f), f[13], f[14], f[15])
+    packets::header::for_format(at(f, 0), common_from(f), at(f, 13), at(f, 14), at(f, 15))
 }
 
 // A header by its fields.
@@ -149,11 +151,11 @@ pub extern "C" fn kirruskabe_write_response(
 ) -> u8
     ensures { λ r. ⌜ Gives 24 (responseWritten reply sap ns destination source (now (flags .entry))) (now (out .entry)) r (now (out .exit)) ⌝ }
 {
-    let mut os = [0u8; 8];
-    let got = give(&mut os, 0, flags);
-    if got != 0 {
+    if flags.len() != 8 {
         return 1;
     }
+    let mut os = [0u8; 8];
+    put(&mut os, 0, flags);
     let w = messages::response::write(
         layouts::fields::reply_of(reply),
         layouts::fields::delivery(sap, ns, destination, source),
@@ -177,27 +179,26 @@ pub extern "C" fn kirruskabe_write_burst(
 ) -> u8
     ensures { λ r. ⌜ Gives 33 (burstWritten colour datatype (now (info .entry)) sync) (now (out .entry)) r (now (out .exit)) ⌝ }
 {
-    let mut os = [0u8; 12];
-    let got = give(&mut os, 0, info);
-    if got != 0 {
+    if info.len() != 12 {
         return 1;
     }
+    let mut os = [0u8; 12];
+    put(&mut os, 0, info);
     let w = bursts::burst::write(colour, datatype, os, layouts::fields::sync_of(sync));
     give(out, at_most(1, sync, w.number), &w.octets)
 }
 
 fn labels_from(f: &[u8]) -> Labels
-    requires { ⌜ length (now f) ≡ 17 ⌝ }
     ensures { λ r. ⌜ r ≡ labelsFrom (now (f .entry)) ⌝ }
 {
     Labels {
-        sequence: f[0],
-        source: addresses::radio_address(f[1], f[2], f[3]),
-        target: addresses::radio_address(f[4], f[5], f[6]),
-        repeater: addresses::repeater_number(f[7], f[8], f[9], f[10]),
-        timeslot: f[11],
-        call: f[12],
-        stream: addresses::number_of(f[13], f[14], f[15], f[16]),
+        sequence: at(f, 0),
+        source: address_at(f, 1),
+        target: address_at(f, 4),
+        repeater: RepeaterNumber(number_at(f, 7)),
+        timeslot: at(f, 11),
+        call: at(f, 12),
+        stream: number_at(f, 13),
     }
 }
 
@@ -216,11 +217,11 @@ pub extern "C" fn kirruskabe_write_datagram(
     if labels.len() != 17 {
         return 1;
     }
-    let mut os = [0u8; 12];
-    let got = give(&mut os, 0, info);
-    if got != 0 {
+    if info.len() != 12 {
         return 1;
     }
+    let mut os = [0u8; 12];
+    put(&mut os, 0, info);
     let w = datagrams::write(
         labels_from(labels),
         colour,

@@ -2,12 +2,12 @@
 -- Assumes nothing.
 use mathlib.Core.Path.{_≡_, refl, sym, ap, subst, _∙_}
 use mathlib.Core.Bool.{Bool, true, false}
-use mathlib.Core.List.{List}
+use mathlib.Core.List.{List, [], _∷_}
 use mathlib.Core.Logic.{_⊎_, inl, inr, _≢_, _↔_}
 use Prim.Native.Nat.{ℕ, _%_, _^_, _≤_, _<_}
 use native.Mathlib.Decide.{ℕ-discrete, decLt}
 use native.Mathlib.Omega.{arith}
-use lib.Dec.{lit≤, lit<, ltb}
+use lib.Dec.{lit≤, ltb}
 use lib.ListN.{length, getD, take, length-drop}
 use lib.Seq.{length-take-le, getD-take, ext-getD}
 use borrow.Author.Tests.{lt-ltb}
@@ -28,7 +28,7 @@ use Rattle.datagrams.specs.declared.Labels.{Labels}
 use Rattle.bursts.proofs.Variants.{slotGood}
 use Rattle.bursts.proofs.Numbers.{slot-read, near-slot, field-read, write-good}
 use Rattle.bursts.proofs.ReadingBack.{field-length}
-use Rattle.bursts.proofs.Rows.{FieldNumber, field-numbers, excluded}
+use Rattle.bursts.proofs.Rows.{FieldNumber, field-numbers, exactly}
 use Rattle.datagrams.proofs.DatagramNumbers.{letters-same, letters-at, number-size, number-prefix, number-frame, number-slot, number-differs, number-other, number-field, read-number}
 use Rattle.datagrams.proofs.DatagramWriting.{call-decides, write-joined}
 
@@ -86,169 +86,96 @@ module _ (d : List ℕ) where
   field-rule n (framed, s, near, same, k, e) =
       read-number d ∙ number-field d s (slotted s framed near) same k ∙ sym (ap (λ x. x .number) (field-read (burstOf d) (burst-size (framed .0)))) ∙ e
 
-  -- what a number says of d
-  record Says (n : ℕ) : Type 0 where
-    one : n ≡ 1 → length d ≢ 53
-    two : n ≡ 2 → Unprefixed d
-    three : n ≡ 3 → OtherFrame d
-    four : n ≡ 4 → NoSlotType d
-    five : n ≡ 5 → WrongType d
-    field : FieldNumber n → FieldOf n d
-    listed : n ≤ 7
+  -- the rows by their numbers
+  abbrev Row : ℕ → Type 0
+  Row n = getD (FieldOf 0 d ∷ (length d ≢ 53) ∷ Unprefixed d ∷ OtherFrame d ∷ NoSlotType d ∷ WrongType d ∷ FieldOf 6 d ∷ FieldOf 7 d ∷ []) n ⊥
 
-  one-says : length d ≢ 53 → Says 1
-  one-says h = record {
-    one = λ e. h;
-    two = λ e. absurd (omega arith);
-    three = λ e. absurd (omega arith);
-    four = λ e. absurd (omega arith);
-    five = λ e. absurd (omega arith);
-    field = λ l. absurd (excluded 1 1 l (lit< tt) (lit< tt) refl);
-    listed = lit≤ tt;
-  }
+  -- one of them is true, and gives its number
+  record Found : Type 0 where
+    row : ℕ
+    holds : Row row
+    gives : readDatagram d .number ≡ row
+    listed : row ≤ 7
 
-  two-says : Unprefixed d → Says 2
-  two-says h = record {
-    one = λ e. absurd (omega arith);
-    two = λ e. h;
-    three = λ e. absurd (omega arith);
-    four = λ e. absurd (omega arith);
-    five = λ e. absurd (omega arith);
-    field = λ l. absurd (excluded 2 2 l (lit< tt) (lit< tt) refl);
-    listed = lit≤ tt;
-  }
+  field-found : (n : ℕ) → FieldOf n d → FieldNumber n → Found
+  field-found n h (inl e) = let f = subst (λ (k : ℕ). FieldOf k d) e h in record { row = 0; holds = f; gives = field-rule 0 f; listed = lit≤ tt }
+  field-found n h (inr (inl e)) = let f = subst (λ (k : ℕ). FieldOf k d) e h in record { row = 6; holds = f; gives = field-rule 6 f; listed = lit≤ tt }
+  field-found n h (inr (inr e)) = let f = subst (λ (k : ℕ). FieldOf k d) e h in record { row = 7; holds = f; gives = field-rule 7 f; listed = lit≤ tt }
 
-  three-says : OtherFrame d → Says 3
-  three-says h = record {
-    one = λ e. absurd (omega arith);
-    two = λ e. absurd (omega arith);
-    three = λ e. h;
-    four = λ e. absurd (omega arith);
-    five = λ e. absurd (omega arith);
-    field = λ l. absurd (excluded 3 3 l (lit< tt) (lit< tt) refl);
-    listed = lit≤ tt;
-  }
+  wrong-found : WrongType d → Found
+  wrong-found w = record { row = 5; holds = w; gives = five-rule w; listed = lit≤ tt }
 
-  four-says : NoSlotType d → Says 4
-  four-says h = record {
-    one = λ e. absurd (omega arith);
-    two = λ e. absurd (omega arith);
-    three = λ e. absurd (omega arith);
-    four = λ e. h;
-    five = λ e. absurd (omega arith);
-    field = λ l. absurd (excluded 4 4 l (lit< tt) (lit< tt) refl);
-    listed = lit≤ tt;
-  }
-
-  five-says : WrongType d → Says 5
-  five-says h = record {
-    one = λ e. absurd (omega arith);
-    two = λ e. absurd (omega arith);
-    three = λ e. absurd (omega arith);
-    four = λ e. absurd (omega arith);
-    five = λ e. h;
-    field = λ l. absurd (excluded 5 5 l (lit< tt) (lit< tt) refl);
-    listed = lit≤ tt;
-  }
-
-  field-says : (n : ℕ) → FieldOf n d → FieldNumber n → Says n
-  field-says n h l = record {
-    one = λ e. absurd (excluded n 1 l (lit< tt) (lit< tt) e);
-    two = λ e. absurd (excluded n 2 l (lit< tt) (lit< tt) e);
-    three = λ e. absurd (excluded n 3 l (lit< tt) (lit< tt) e);
-    four = λ e. absurd (excluded n 4 l (lit< tt) (lit< tt) e);
-    five = λ e. absurd (excluded n 5 l (lit< tt) (lit< tt) e);
-    field = λ p. h;
-    listed = go l;
-  }
-    where
-      go : FieldNumber n → n ≤ 7
-      go (inl e) = omega arith
-      go (inr (inl e)) = omega arith
-      go (inr (inr e)) = omega arith
-
-  -- d by what is known of it
-
-  wrong-says : WrongType d → Says (readDatagram d .number)
-  wrong-says w = subst Says (sym (five-rule w)) (five-says w)
-
-  kind-says : (s : ℕ) → Framed d → Near (burstOf d) s → namedType d ≡ s % 16 → (k : Bool) → known (kindOf (namedType d)) ≡ k
-      → Says (readDatagram d .number)
-  kind-says s framed near same true k =
-      let n = fieldNumber (fieldOf (burstOf d)) in
-      let f : FieldOf n d = (framed, s, near, same, k, refl) in
-      subst Says (sym (field-rule n f)) (field-says n f (field-numbers (fieldOf (burstOf d)) (field-length (burstOf d))))
-  kind-says s framed near same false k = wrong-says (framed, s, near, inr k)
-
-  type-says : (s : ℕ) → Framed d → Near (burstOf d) s → Dec (namedType d ≡ s % 16) → Says (readDatagram d .number)
-  type-says s framed near (yes e) = kind-says s framed near e (known (kindOf (namedType d))) refl
-  type-says s framed near (no n) = wrong-says (framed, s, near, inl n)
+  type-found : (s : ℕ) → Framed d → Near (burstOf d) s → Dec (namedType d ≡ s % 16) → (k : Bool) → known (kindOf (namedType d)) ≡ k → Found
+  type-found s framed near (yes e) true k =
+      let f = fieldOf (burstOf d) in
+      field-found (fieldNumber f) (framed, s, near, e, k, refl) (field-numbers f (field-length (burstOf d)))
+  type-found s framed near (yes e) false k = wrong-found (framed, s, near, inr k)
+  type-found s framed near (no n) t k = wrong-found (framed, s, near, inl n)
 
   unslotted : Framed d → slotGood (readSlotType (slotBits (burstOf d))) ≡ false → NoSlotType d
   unfolding slotNumber
   unslotted (h, p, f) e =
       ((h, p, f), λ s near. let r : slotGood (readSlotType (slotBits (burstOf d))) ≡ true = ap slotGood (slot-read (burstOf d) (burst-size h) ∙ near-slot (burstOf d) s (burst-size h) near) in let z : _≡_ {A = ℕ} 0 1 = cc in omega arith)
 
-  unslotted-says : NoSlotType d → Says (readDatagram d .number)
-  unslotted-says u = subst Says (sym (four-rule u)) (four-says u)
+  unslotted-found : NoSlotType d → Found
+  unslotted-found u = record { row = 4; holds = u; gives = four-rule u; listed = lit≤ tt }
 
-  slot-says : Framed d → (s : SlotType) → readSlotType (slotBits (burstOf d)) ≡ s → Says (readDatagram d .number)
+  slot-found : Framed d → (s : SlotType) → readSlotType (slotBits (burstOf d)) ≡ s → Found
   unfolding slotNumber
-  slot-says framed (Data s) e =
+  slot-found framed (Data s) e =
       let n = reads-near (slotBits (burstOf d)) s e in
-      type-says s framed (n .0, n .2) (ℕ-discrete (namedType d) (s % 16))
-  slot-says framed NoCodeword e = unslotted-says (unslotted framed (ap slotGood e))
-  slot-says framed TooWide e = unslotted-says (unslotted framed (ap slotGood e))
+      type-found s framed (n .0, n .2) (ℕ-discrete (namedType d) (s % 16)) (known (kindOf (namedType d))) refl
+  slot-found framed NoCodeword e = unslotted-found (unslotted framed (ap slotGood e))
+  slot-found framed TooWide e = unslotted-found (unslotted framed (ap slotGood e))
 
-  frame-says : length d ≡ 53 → take 4 d ≡ prefix → Dec (frameOf d ≡ 2) → Says (readDatagram d .number)
-  frame-says h p (yes f) = slot-says (h, p, f) (readSlotType (slotBits (burstOf d))) refl
-  frame-says h p (no f) = let o : OtherFrame d = (h, p, f) in subst Says (sym (three-rule o)) (three-says o)
+  frame-found : length d ≡ 53 → take 4 d ≡ prefix → Dec (frameOf d ≡ 2) → Found
+  frame-found h p (yes f) = slot-found (h, p, f) (readSlotType (slotBits (burstOf d))) refl
+  frame-found h p (no f) = record { row = 3; holds = (h, p, f); gives = three-rule (h, p, f); listed = lit≤ tt }
 
-  prefix-says : length d ≡ 53 → (t : Bool) → prefixed d ≡ t → Says (readDatagram d .number)
-  prefix-says h true e = frame-says h (letters-take h e) (ℕ-discrete (frameOf d) 2)
-  prefix-says h false e = subst Says (sym (two-rule u)) (two-says u)
-    where
-      u : Unprefixed d
-      u = (h, λ p. let r = take-letters p in let z : _≡_ {A = ℕ} 0 1 = cc in omega arith)
+  prefix-found : length d ≡ 53 → (t : Bool) → prefixed d ≡ t → Found
+  prefix-found h true e = frame-found h (letters-take h e) (ℕ-discrete (frameOf d) 2)
+  prefix-found h false e =
+      let u : Unprefixed d = (h, λ p. let r = take-letters p in let z : _≡_ {A = ℕ} 0 1 = cc in omega arith) in
+      record { row = 2; holds = u; gives = two-rule u; listed = lit≤ tt }
 
-  size-says : Dec (length d ≡ 53) → Says (readDatagram d .number)
-  size-says (yes h) = prefix-says h (prefixed d) refl
-  size-says (no h) = subst Says (sym (one-rule h)) (one-says h)
+  size-found : Dec (length d ≡ 53) → Found
+  size-found (yes h) = prefix-found h (prefixed d) refl
+  size-found (no h) = record { row = 1; holds = h; gives = one-rule h; listed = lit≤ tt }
 
-  says : Says (readDatagram d .number)
-  says = size-says (ℕ-discrete (length d) 53)
+  found : Found
+  found = size-found (ℕ-discrete (length d) 53)
 
   -- so the rows and the numbers agree
 
-  pub one : (readDatagram d .number ≡ 1) ↔ (length d ≢ 53)
-  one = (says .one, one-rule)
-
-  pub two : (readDatagram d .number ≡ 2) ↔ Unprefixed d
-  two = (says .two, two-rule)
-
-  pub three : (readDatagram d .number ≡ 3) ↔ OtherFrame d
-  three = (says .three, three-rule)
-
-  pub four : (readDatagram d .number ≡ 4) ↔ NoSlotType d
-  four = (says .four, four-rule)
-
-  pub five : (readDatagram d .number ≡ 5) ↔ WrongType d
-  five = (says .five, five-rule)
-
-  field-row : (n : ℕ) → FieldNumber n → (readDatagram d .number ≡ n) ↔ FieldOf n d
-  field-row n l = (λ e. subst (λ (k : ℕ). FieldOf k d) e (says .field (subst FieldNumber (sym e) l)), field-rule n)
+  agree : (n : ℕ) → (Row n → readDatagram d .number ≡ n) → (readDatagram d .number ≡ n) ↔ Row n
+  agree n = exactly Row (readDatagram d .number) (found .row) n (found .holds) (found .gives)
 
   pub zero : (readDatagram d .number ≡ 0) ↔ FieldOf 0 d
-  zero = field-row 0 (inl refl)
+  zero = agree 0 (field-rule 0)
+
+  pub one : (readDatagram d .number ≡ 1) ↔ (length d ≢ 53)
+  one = agree 1 one-rule
+
+  pub two : (readDatagram d .number ≡ 2) ↔ Unprefixed d
+  two = agree 2 two-rule
+
+  pub three : (readDatagram d .number ≡ 3) ↔ OtherFrame d
+  three = agree 3 three-rule
+
+  pub four : (readDatagram d .number ≡ 4) ↔ NoSlotType d
+  four = agree 4 four-rule
+
+  pub five : (readDatagram d .number ≡ 5) ↔ WrongType d
+  five = agree 5 five-rule
 
   pub six : (readDatagram d .number ≡ 6) ↔ FieldOf 6 d
-  six = field-row 6 (inr (inl refl))
+  six = agree 6 (field-rule 6)
 
   pub seven : (readDatagram d .number ≡ 7) ↔ FieldOf 7 d
-  seven = field-row 7 (inr (inr refl))
+  seven = agree 7 (field-rule 7)
 
   pub no-other : readDatagram d .number ≤ 7
-  no-other = says .listed
+  no-other = omega (arith, found .gives, found .listed)
 
 -- ---- writing
 

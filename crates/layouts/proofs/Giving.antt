@@ -1,4 +1,4 @@
--- What is given for an answer, by the size of the lent memory and the number; and octets taken into an array by giving them.
+-- What is given for an answer, by the size of the lent memory and the number.
 -- Assumes nothing.
 use mathlib.Core.Path.{_≡_, sym, subst, _∙_}
 use mathlib.Core.Bool.{true, false}
@@ -35,16 +35,3 @@ module _ (n : ℕ) (a : Answer) (out : List ℕ) where
       either (eqb (length out) n)
       (λ e. subst (λ (x : ℕ). Gives n a out x out) h (refused (eqb-true (length out) n e) (λ z. omega arith)))
       (λ e. another-size (λ size. let z : true ≡ false = sym (eq-eqb (length out) n size) ∙ e in absurd (let y : _≡_ {A = ℕ} 0 1 = cc in omega arith)))
-
--- octets taken into an array by giving them
-module _ (os array after : List ℕ) (r : ℕ) (g : Gives (length os) (0, os) array r after) where
-  pub taken : r ≡ 0 → (length os ≡ length array) × (after ≡ os)
-  unfolding given filled
-  taken h =
-      either (eqb (length array) (length os))
-      (λ e. (sym (eqb-true (length array) (length os) e), g .holds ∙ (rw e)))
-      (λ e. absurd (let z : 0 ≡ 1 = sym h ∙ g .returned ∙ (rw e) in omega arith))
-
-  pub not-taken : (r ≡ 0 → ⊥) → length os ≡ length array → ⊥
-  unfolding given
-  not-taken h size = h (g .returned ∙ (rw (eq-eqb (length array) (length os) (sym size))))

@@ -22,7 +22,7 @@ pub fn give_both(out: &mut [u8], number: u8, head: &[u8], tail: &[u8]) -> u8
     0
 }
 
-// The answer of a number and octets. With number 0 it also takes octets into an array, and refuses those of another size.
+// The answer of a number and octets.
 pub fn give(out: &mut [u8], number: u8, octets: &[u8]) -> u8
     ensures { λ r. ⌜ Gives (length (now (octets .entry))) (number, now (octets .entry)) (now (out .entry)) r (now (out .exit)) ⌝ }
 {

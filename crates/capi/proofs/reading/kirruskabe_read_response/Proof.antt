@@ -1,30 +1,26 @@
 -- `capi::reading::kirruskabe_read_response` meets its contract.
 -- Assumes nothing.
 use mathlib.Core.Path.{_≡_, ap, _∙_}
-use mathlib.Core.List.{List, _∷_}
+use mathlib.Core.List.{List, [], _∷_, _++_}
 use Prim.Native.Nat.{ℕ}
 use native.Mathlib.Omega.{arith}
-use lib.ListN.{length, getD}
+use lib.ListN.{length}
 use borrow.Author.Needs.{needs}
+use Rattle.foundation.specs.Octets.{over, put}
 use Rattle.addresses.specs.Octets.{threeOctets}
 use Rattle.messages.specs.declared.response.ResponseAnswer.{ResponseAnswer}
 use Rattle.layouts.specs.Layouts.{responseOctets}
-use Rattle.layouts.specs.Lent.{Answer}
 use Rattle.capi.specs.Answers.{responseRead}
 use Rattle.layouts.proofs.Giving.{gives-as}
 use Rattle.capi.proofs.reading.kirruskabe_read_response.Statement.{statement}
 use Rattle.capi.proofs.reading.kirruskabe_read_response.Tie as tie
 
--- the fields with their addresses in octets
-response-laid : (a : ResponseAnswer) (to from : List ℕ) → to ≡ threeOctets (a .destination .0) → from ≡ threeOctets (a .source .0)
-    → _≡_ {A = Answer} (
-      a .number,
-      a .class ∷ a .kind ∷ a .status ∷ a .sap ∷ getD to 0 0 ∷ getD to 1 0 ∷ getD to 2 0
-          ∷ getD from 0 0 ∷ getD from 1 0 ∷ getD from 2 0 ∷ a .flags,
-    )
-    (a .number, responseOctets a)
-unfolding responseOctets
-response-laid a to from t f = rw (t, f)
+-- the fields with their addresses put behind them
+laid : (a : ResponseAnswer) (to from m r : List ℕ) → to ≡ threeOctets (a .destination .0) → from ≡ threeOctets (a .source .0)
+    → m ≡ put (a .class ∷ a .kind ∷ a .status ∷ a .sap ∷ 0 ∷ 0 ∷ 0 ∷ 0 ∷ 0 ∷ 0 ∷ []) 4 to → r ≡ put m 7 from
+    → r ≡ a .class ∷ a .kind ∷ a .status ∷ a .sap ∷ threeOctets (a .destination .0) ++ threeOctets (a .source .0)
+unfolding put over
+laid a to from m r t f p q = q ∙ rw (p, t, f)
 
 read-requires : tie.Need-read-requires
 read-requires c κs = search needs
@@ -35,23 +31,23 @@ radio-octets-requires c κs = search needs
 radio-octets-requires-2 : tie.Need-radio-octets-requires-2
 radio-octets-requires-2 c κs = search needs
 
-array-read-t17 : tie.Need-array-read-t17
-array-read-t17 c = search needs
+slice-aggregate-put : tie.Need-slice-aggregate-put
+slice-aggregate-put c = search needs
 
-array-read-t20 : tie.Need-array-read-t20
-array-read-t20 c = search needs
+slice-aggregate-put-2 : tie.Need-slice-aggregate-put-2
+slice-aggregate-put-2 c = search needs
 
-array-read-t23 : tie.Need-array-read-t23
-array-read-t23 c = search needs
+put-requires : tie.Need-put-requires
+put-requires c κs = search needs
 
-array-read-t26 : tie.Need-array-read-t26
-array-read-t26 c = search needs
+slice-aggregate-put-3 : tie.Need-slice-aggregate-put-3
+slice-aggregate-put-3 c = search needs
 
-array-read-t29 : tie.Need-array-read-t29
-array-read-t29 c = search needs
+slice-aggregate-put-4 : tie.Need-slice-aggregate-put-4
+slice-aggregate-put-4 c = search needs
 
-array-read-t32 : tie.Need-array-read-t32
-array-read-t32 c = search needs
+put-requires-2 : tie.Need-put-requires-2
+put-requires-2 c κs = search needs
 
 slice-aggregate-give-both : tie.Need-slice-aggregate-give-both
 slice-aggregate-give-both c = search needs
@@ -63,12 +59,17 @@ same-length : tie.Need-same-length
 same-length c = search needs
 
 returns : tie.Need-returns
-unfolding responseRead
+unfolding responseRead responseOctets
 returns c =
-    let w = c .before .before .before .before .before .before .before .before .before .before .before .before .read in
+    let q = c .before .before .before .before .before .before .before .before .before in
+    let p = q .before .before .before .before in
+    let f = p .before .before .before in
+    let t = f .before .before in
+    let w = t .before .before .read in
     let size : length (w .result .flags) ≡ 8 = search needs in
     gives-as (omega arith)
-    (response-laid (w .result) _ _ (c .before .before .before .before .before .before .before .before .before .before .radio-octets .ensures) (c .before .before .before .before .before .before .before .before .radio-octets2 .ensures) ∙ ap (λ (x : ResponseAnswer). (x .number, responseOctets x)) (w .ensures))
+    (ap (λ (x : List ℕ). (w .result .number, x ++ w .result .flags)) (laid (w .result) _ _ _ _ (t .radio-octets .ensures) (f .radio-octets2 .ensures) (p .put .ensures) (q .put2 .ensures))
+    ∙ ap (λ (x : ResponseAnswer). (x .number, responseOctets x)) (w .ensures))
     (c .before .before .give-both .ensures)
 
 pub kirruskabe-read-response-spec : {M : Type 1} → statement M
@@ -78,12 +79,12 @@ kirruskabe-read-response-spec =
     read-requires
     radio-octets-requires
     radio-octets-requires-2
-    array-read-t17
-    array-read-t20
-    array-read-t23
-    array-read-t26
-    array-read-t29
-    array-read-t32
+    slice-aggregate-put
+    slice-aggregate-put-2
+    put-requires
+    slice-aggregate-put-3
+    slice-aggregate-put-4
+    put-requires-2
     slice-aggregate-give-both
     give-both-requires
     same-length
