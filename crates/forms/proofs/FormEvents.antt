@@ -21,7 +21,7 @@ use Rattle.reception.proofs.Claims.{brings}
 use Rattle.transactions.specs.Answers.{refused, numberOf}
 use Rattle.foundation.proofs.Tests.{either, never}
 use Rattle.receiver_state.specs.declared.Receiver.{Receiver}
-use Rattle.stored.specs.Stored.{storedBlock, saved, afterSave}
+use Rattle.stored.specs.Stored.{storedBlock, afterSave}
 use Rattle.stored.specs.Claims.{Savable}
 use Rattle.history.specs.History.{Event, header, block, ended}
 use Rattle.history.specs.Run.{event, State, answerTo, savedForm}
@@ -33,7 +33,6 @@ use Rattle.forms.specs.Forms.{stateIn, formNumber, lineNumber, eventNumb
 use Rattle.forms.specs.Parts.{AnEvent, Answered, kindNumber}
 use Rattle.forms.proofs.Answers.{line-refused, line-taken, numbered, refused-numbered}
 use Rattle.forms.proofs.HeldHistory.{savable-after}
-use Rattle.forms.proofs.FormStates.{other-size}
 
 -- ---- records that are events
 
@@ -125,9 +124,6 @@ module _ (form : List ℕ) (s0 s1 : ℕ) (line : List ℕ) (number : ℕ) (r : R
     pub form-refused : (n : ℕ) → n ≡ formNumber form → n ≢ 0 → Outcome n form line
     form-refused n e d =
         no-change n (unfold eventNumber firstFailed in rw (eq-eqb (length line) lineSize room, ← e, ne-eqb n 0 d)) d
-
-    pub other-form : length form ≢ 2 * storedBlock → Outcome 1 form line
-    other-form d = form-refused 1 (sym (other-size form d)) (λ z. omega arith)
 
     module _ (taken : formNumber form ≡ 0) where
       pub number-refused : number ≢ 0 → Outcome number form line

@@ -14,7 +14,7 @@ use Rattle.foundation.proofs.Tests.{either}
 use Rattle.receiver_state.specs.Receiver.{freshReceiver, freshFor}
 use Rattle.receiver_state.specs.declared.Fresh.{Fresh}
 use Rattle.stored.specs.Stored.{storedBlock, saveNumber, afterSave}
-use Rattle.stored.proofs.Numbers.{save-taken}
+use Rattle.stored.proofs.Numbers.{form-usable, save-taken}
 use Rattle.stored.proofs.RestoredBack.{fresh-good}
 use Rattle.history.proofs.Follows.{fresh-fits}
 use Rattle.forms.specs.Forms.{freshForm, freshNumber, afterFresh}
@@ -53,5 +53,6 @@ module _ (own : RadioAddress) (s0 s1 : ℕ) (form : List ℕ) where
       pub fresh-made : Made (saveNumber (f .receiver) noOctets form) (afterSave (f .receiver) noOctets s0 s1 form)
       unfolding afterFresh freshForm
       fresh-made =
-          let p = save-taken (freshReceiver own) noOctets form s0 s1 (fresh-good own fits) length-none size in
+          let usable = sym (form-usable (freshReceiver own) (length noOctets) (length form) (fresh-good own fits) length-none) ∙ eq-eqb (length form) (2 * storedBlock) size in
+          let p = save-taken (freshReceiver own) noOctets form s0 s1 usable in
           rw (receiver-is, number-is) (sym (p .0), sym (p .1))

@@ -51,28 +51,16 @@ pub fn fresh_form(own: RadioAddress, s0: u8, s1: u8, form: &mut [u8]) -> u8
 
 // ---- one event
 
-// The receiver of a stored form of its size, over a store of zeros that gets its octets.
+// The receiver of a stored form, over a store of zeros that gets its octets; or the number of a form that is none.
 fn take_form(form: &[u8], store: &mut [u8]) -> Restored
-    requires { ⌜ (length (now form) ≡ 2 * storedBlock) × (now store ≡ replicate storeSize 0) ⌝ }
+    requires { ⌜ now store ≡ replicate storeSize 0 ⌝ }
     ensures { λ r. ⌜ (r ≡ restored (freshReceiver (addressAt (now (form .entry)) 5)) (now (form .entry)) (replicate storeSize 0))
         × (now (store .exit) ≡ afterRestore (freshReceiver (addressAt (now (form .entry)) 5)) (now (form .entry)) (replicate storeSize 0)) ⌝ }
 {
-    let own = addresses::radio_address(form[5], form[6], form[7]);
+    let own = addresses::address_at(form, 5);
     let fresh = receiver_state::fresh_for(own);
     let rx = fresh.receiver;
     stored::restoring::restore(rx, form, store)
-}
-
-// The octets become those of the line.
-fn put_line(line: &mut [u8], octets: &[u8])
-    requires { ⌜ (length (now line) ≡ lineSize) × (length (now octets) ≡ lineSize) ⌝ }
-    ensures { λ r. ⌜ now (line .exit) ≡ now (octets .entry) ⌝ }
-{
-    let mut i: usize = 0;
-    while i < LINE {
-        line[i] = octets[i];
-        i += 1;
-    }
 }
 
 // An event of this kind and these octets, at a receiver that can be saved: the number of its answer. A refusal changes neither the form
@@ -99,7 +87,7 @@ fn act_on(
     }
     let next = recorded.receiver;
     stored::saving::save(next, store, s0, s1, form);
-    put_line(line, &answer);
+    foundation::octets::put(line, 0, &answer);
     0
 }
 
@@ -119,9 +107,6 @@ fn on_record(
         × (now (line .exit) ≡ lineAfter (now (form .entry)) (now (line .entry)) number (recordOf kind (now (octets .entry)))) ⌝ }
 {
     if line.len() != LINE {
-        return 1;
-    }
-    if form.len() != FORM {
         return 1;
     }
     let mut store = [0u8; STORE];

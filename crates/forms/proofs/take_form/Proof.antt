@@ -5,17 +5,8 @@ use borrow.Author.Needs.{needs}
 use Rattle.forms.proofs.take_form.Statement.{statement}
 use Rattle.forms.proofs.take_form.Tie as tie
 
-shared-slice-read-radio-address : tie.Need-shared-slice-read-radio-address
-shared-slice-read-radio-address c = search needs
-
-shared-slice-read-radio-address-2 : tie.Need-shared-slice-read-radio-address-2
-shared-slice-read-radio-address-2 c = search needs
-
-shared-slice-read-radio-address-3 : tie.Need-shared-slice-read-radio-address-3
-shared-slice-read-radio-address-3 c = search needs
-
-radio-address-requires : tie.Need-radio-address-requires
-radio-address-requires c κs = search needs
+address-at-requires : tie.Need-address-at-requires
+address-at-requires c κs = search needs
 
 fresh-for-requires : tie.Need-fresh-for-requires
 fresh-for-requires c κs = search needs
@@ -27,23 +18,17 @@ same-length : tie.Need-same-length
 same-length c = search needs
 
 returns : tie.Need-returns
-returns c = let st = c .before .before .before .before .before .before .before .before .before .before .before .before in
-    let known = c .before .before .before .before .before .before .before .before .before .before .before .shared-slice-known .given in
-    let r = c .before .before .restore .ensures in
-    let own = c .before .before .before .before .before .before .radio-address in
-    let fresh = c .before .before .before .before .before .fresh-for in
-    fresh-taken (st .args .form .now) (λ i. known i .fits) (own .result) (own .ensures) (fresh .result) (fresh .ensures) (st .args .store .now) (st .pre .1)
-    (c .before .before .restore .result) _ (r .0) (r .1)
+returns c =
+    let k1 = c .before .before .before .before .before in
+    let k2 = k1 .before .before .before in
+    let a = k2 .before .args in
+    let own = k1 .before .address-at in
+    let fresh = k1 .fresh-for in
+    let r = c .before .before .restore in
+    fresh-taken (a .form .now) (λ i. k2 .shared-slice-known .given i .fits) (own .result) (own .ensures) (fresh .result) (fresh .ensures) (a .store .now) (k2 .before .pre)
+    (r .result) _ (r .ensures .0) (r .ensures .1)
 
 pub take-form-spec : {M : Type 1} → statement M
 take-form-spec =
     tie.close
-    (tie.spec
-    shared-slice-read-radio-address
-    shared-slice-read-radio-address-2
-    shared-slice-read-radio-address-3
-    radio-address-requires
-    fresh-for-requires
-    restore-requires
-    same-length
-    returns)
+    (tie.spec address-at-requires fresh-for-requires restore-requires same-length returns)
