@@ -1,9 +1,8 @@
 -- Octets written over a list, one at a time and one part behind the other.
 -- Assumes nothing.
-use mathlib.Core.Path.{_≡_, refl, sym, ap, subst, _∙_}
+use mathlib.Core.Path.{_≡_, refl, sym, ap, _∙_}
 use mathlib.Core.List.{List, [], _++_, append-nil, append-assoc}
 use Prim.Native.Nat.{ℕ, _+_, _-_, _≤_, _<_}
-use native.Mathlib.Nat.{zero-add}
 use native.Mathlib.Numerals.{add-one}
 use native.Mathlib.Omega.{arith}
 use lib.Dec.{leb}
@@ -38,21 +37,6 @@ module _ (d : List ℕ) (at : ℕ) (s : List ℕ) where
         let p = k .part in
         let done : i ≡ length s = omega arith in
         k .is ∙ rw (done, take-all (length s) s (omega arith))
-
--- all of a list written anew
-pub over-all : (d s : List ℕ) → length s ≡ length d → over d 0 s ≡ s
-unfolding over
-over-all d s e = rw (drop-of-length-le d {i = 0 + length s} (omega arith)) (append-nil s)
-
-module _ (d s : List ℕ) (same : length s ≡ length d) (i : ℕ) (m : List ℕ) (k : Copied d 0 s i m) where
-  pub anew-length : length m ≡ length d
-  anew-length = copied-length d 0 s i m (omega arith) k
-
-  pub anew-more : (x : ℕ) → i < length s → x ≡ getD s i 0 → Copied d 0 s (i + 1) (set m i x)
-  anew-more x h e = subst (λ (j : ℕ). Copied d 0 s (i + 1) (set m j x)) (zero-add i) (copied-more d 0 s i m (omega arith) k x h e)
-
-  pub anew-done : length s ≤ i → m ≡ s
-  anew-done h = copied-done d 0 s i m (omega arith) k h ∙ over-all d s same
 
 -- what has been written so far, before the rest of the old octets
 abbrev pub Grown : List ℕ → List ℕ → List ℕ → Type 0

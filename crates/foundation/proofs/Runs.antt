@@ -12,7 +12,7 @@ use lib.Pow.{high, low, shr-shr, mod-pow-add, pow-mono}
 use lib.ListN.{length, getD}
 use lib.Seq.{ext-getD}
 use borrow.Author.Tests.{lt-ltb, le-ltb}
-use Rattle.foundation.specs.Bits.{Bits, bit, digits, octetBit, zeros, followed, number, tabulate, octets}
+use Rattle.foundation.specs.Bits.{Bits, digits, octetBit, zeros, followed, number, tabulate, octets}
 use Rattle.foundation.proofs.Xor.{bit-lt}
 
 pub digits-bits : (n a : ℕ) → Bits (digits n a)

@@ -1,12 +1,12 @@
 -- The claims of the receiver's events hold.
 -- Assumes nothing.
-use mathlib.Core.Path.{_≡_, ap, _∙_}
+use mathlib.Core.Path.{_≡_, ap}
 use mathlib.Core.Bool.{Bool, true, false, cond}
 use mathlib.Core.List.{List}
-use Prim.Native.Nat.{ℕ, _*_, _-_, _≤_}
+use Prim.Native.Nat.{ℕ, _*_, _-_}
 use native.Mathlib.Omega.{arith}
 use lib.Dec.{eqb}
-use lib.ListN.{length, take}
+use lib.ListN.{take}
 use Rattle.checks.specs.Checks.{messageGood}
 use Rattle.messages.specs.Messages.{blockSize, checkSize}
 use Rattle.transactions.specs.Transactions.{isFull, repeats, serialOf, dataOf}
@@ -15,7 +15,7 @@ use Rattle.receiver_state.specs.declared.Receiver.{Receiver}
 use Rattle.receiver.specs.declared.event.Answer.{Answer}
 use Rattle.receiver.specs.declared.event.Answer.the-variants.{Refused, Opened, Repeat, Stored, Bad, Message}
 use Rattle.receiver.specs.declared.event.Step.{Step}
-use Rattle.receiver_state.specs.Receiver.{storeSize, noFlags, held, allHeld, receiverGood}
+use Rattle.receiver_state.specs.Receiver.{noFlags, held, allHeld}
 use Rattle.receiver.specs.Events.{answered, changed, headerNumber, openedBy, onHeader, putBlock, Left, blockNumber, completed, taken, onBlock}
 use Rattle.receiver.specs.Claims.{HeaderRefused, BlockRefused, ReceiverClaims}
 

@@ -1,6 +1,6 @@
 -- A number of 64 bits has at most 20 digits; written where there is room for them, and not elsewhere.
 -- Assumes nothing.
-use mathlib.Core.Path.{_≡_, refl, ap, _∙_}
+use mathlib.Core.Path.{_≡_, refl}
 use mathlib.Core.List.{List}
 use Prim.Native.Nat.{ℕ, _+_, _-_, _^_, _≤_, _<_}
 use native.Mathlib.Nat.{pow-le-pow-right}
@@ -9,7 +9,7 @@ use native.Mathlib.Omega.{arith}
 use lib.ListN.{length}
 use Rattle.io.specs.Digits.{digits, Fewest}
 use Rattle.foundation.specs.Octets.{put}
-use Rattle.texts.specs.Texts.{Written, DecimalAt}
+use Rattle.texts.specs.Texts.{DecimalAt}
 
 pub few-digits : (n k : ℕ) → n < 2 ^ 64 → Fewest 10 1 n k → k ≤ 20
 few-digits n k small fewest = go (decLt 20 k)
