@@ -10,6 +10,7 @@ use native.Mathlib.Omega.{arith}
 use lib.ListN.{length}
 use borrow.Author.Tests.{eq-eqb}
 use Rattle.foundation.specs.Order.{firstFailed}
+use Rattle.foundation.proofs.Tests.{exactly}
 use Rattle.codes.specs.SlotWord.{readSlotType, slotNumber}
 use Rattle.codes.specs.Field.{correctedField, rowsGood, columnsGood, reservedClear, matrixTests, fieldNumber, readField}
 use Rattle.codes.specs.declared.slot_type.SlotType.{SlotType}
@@ -38,10 +39,6 @@ field-numbers f h = rw (eq-eqb (length f) 25 h) (go (rowsGood m) (columnsGood m)
     go true true false = inr (inr refl)
     go true false z = inr (inl refl)
     go false y z = inr (inl refl)
-
--- where row k is true, and gives its number, row n is true exactly if its number is given
-pub exactly : (Row : ℕ → Type 0) (m k n : ℕ) → Row k → m ≡ k → (Row n → m ≡ n) → (m ≡ n) ↔ Row n
-exactly Row m k n r is gives = (λ e. subst Row (sym is ∙ e) r, gives)
 
 module _ (b : List ℕ) where
   -- each row gives its number

@@ -17,7 +17,7 @@ use Rattle.codes.specs.Field.{fieldNumber, readField}
 use Rattle.codes.specs.declared.slot_type.SlotType.{SlotType}
 use Rattle.codes.specs.declared.slot_type.SlotType.the-variants.{Data, NoCodeword, TooWide}
 use Rattle.codes.proofs.SlotReading.{reads-near}
-use Rattle.foundation.proofs.Tests.{choose, cond-lt, cond-ge, not-true}
+use Rattle.foundation.proofs.Tests.{choose, cond-lt, cond-ge, not-true, exactly}
 use Rattle.bursts.specs.Bursts.{kindOf, known, slotBits, fieldOf, partTests, writtenBurst}
 use Rattle.bursts.specs.BurstClaims.{Near}
 use Rattle.datagrams.specs.Datagrams.{prefix, prefixed, frameOf, namedType, burstOf, datagramNumber, readDatagram, writtenDatagram, labelTests, writeNumber, writeDatagram}
@@ -28,7 +28,7 @@ use Rattle.datagrams.specs.declared.Labels.{Labels}
 use Rattle.bursts.proofs.Variants.{slotGood}
 use Rattle.bursts.proofs.Numbers.{slot-read, near-slot, field-read, write-good}
 use Rattle.bursts.proofs.ReadingBack.{field-length}
-use Rattle.bursts.proofs.Rows.{FieldNumber, field-numbers, exactly}
+use Rattle.bursts.proofs.Rows.{FieldNumber, field-numbers}
 use Rattle.datagrams.proofs.DatagramNumbers.{letters-same, letters-at, number-size, number-prefix, number-frame, number-slot, number-differs, number-other, number-field, read-number}
 use Rattle.datagrams.proofs.DatagramWriting.{call-decides, write-joined}
 

@@ -1,7 +1,7 @@
 -- An event on a form: the order of its checks, and what each leaves.
 -- Assumes nothing.
 use mathlib.Core.Path.{_≡_, refl, sym, ap, subst, _∙_}
-use mathlib.Core.Bool.{true, false, cond}
+use mathlib.Core.Bool.{true, false}
 use mathlib.Core.List.{List, []}
 use mathlib.Core.Logic.{_≢_}
 use Prim.Native.Nat.{ℕ, _*_}
@@ -9,7 +9,7 @@ use native.Mathlib.Omega.{arith}
 use native.Mathlib.Decide.{ℕ-discrete}
 use lib.Dec.{eqb, lit<}
 use lib.ListN.{length, getD, replicate, length-replicate}
-use borrow.Author.Tests.{eq-eqb, ne-eqb, eqb-true}
+use borrow.Author.Tests.{eq-eqb, ne-eqb}
 use Rattle.foundation.specs.Order.{firstFailed, all}
 use Rattle.bursts.specs.Bursts.{known}
 use Rattle.bursts.specs.declared.burst.Kind.{Kind}
@@ -19,7 +19,8 @@ use Rattle.reception.specs.Reception.{arrivalOf}
 use Rattle.reception.specs.declared.Arrival.{Arrival}
 use Rattle.reception.proofs.Claims.{brings}
 use Rattle.transactions.specs.Answers.{refused, numberOf}
-use Rattle.foundation.proofs.Tests.{either, never}
+use Rattle.foundation.proofs.Order.{itself}
+use Rattle.foundation.proofs.Tests.{never}
 use Rattle.receiver_state.specs.declared.Receiver.{Receiver}
 use Rattle.stored.specs.Stored.{storedBlock, afterSave}
 use Rattle.stored.specs.Claims.{Savable}
@@ -103,10 +104,6 @@ module _ (rx : Receiver) (store : List ℕ) (m : Savable rx store) (small : Octe
       rw (en, el) (form-of (afterRecord (stateOf rx store) r .receiver) (v .good) (afterRecord (stateOf rx store) r .store) s0 s1 form (v .room) size)
 
 -- ---- the order of checks
-
--- a number as the last test gives it
-itself : (k : ℕ) → cond (eqb k 0) 0 k ≡ k
-itself k = either (eqb k 0) (λ t. rw t (sym (eqb-true k 0 t))) (λ t. rw t)
 
 module _ (form : List ℕ) (s0 s1 : ℕ) (line : List ℕ) (number : ℕ) (r : Record) where
   abbrev pub Outcome : ℕ → List ℕ → List ℕ → Type 0

@@ -7,11 +7,11 @@ use mathlib.Core.Logic.{_≢_}
 use Prim.Native.Nat.{ℕ, zero, suc, _-_, _<_}
 use native.Mathlib.Nat.{not-suc-le-zero}
 use native.Mathlib.Omega.{arith}
-use lib.Dec.{ltb}
+use lib.Dec.{eqb, ltb}
 use lib.ListN.{getD}
-use borrow.Author.Tests.{lt-ltb}
+use borrow.Author.Tests.{lt-ltb, eqb-true}
 use Rattle.foundation.specs.Order.{firstFailed, every, all}
-use Rattle.foundation.proofs.Tests.{never}
+use Rattle.foundation.proofs.Tests.{either, never}
 
 -- ---- all
 
@@ -36,6 +36,12 @@ all-fails [] i e = e
 all-fails (false ∷ ts) i e = refl
 all-fails (true ∷ ts) zero e = never refl e
 all-fails (true ∷ ts) (suc i) e = all-fails ts i e
+
+pub all-append : (ts us : List Bool) → all (ts ++ us) ≡ cond (all ts) (all us) false
+unfolding all
+all-append [] us = refl
+all-append (true ∷ ts) us = all-append ts us
+all-append (false ∷ ts) us = refl
 
 -- ---- the first that fails
 
@@ -85,6 +91,21 @@ module _ (us : List (Bool × ℕ)) where
   run-fails [] n = absurd (n refl)
   run-fails ((true, k) ∷ ts) n = run-fails ts n
   run-fails ((false, k) ∷ ts) n = refl
+
+-- a number as its own test gives it
+pub itself : (n : ℕ) → cond (eqb n 0) 0 n ≡ n
+itself n = either (eqb n 0) (λ t. rw t (sym (eqb-true n 0 t))) (λ t. rw t)
+
+-- tests that have one number
+abbrev pub alike : ℕ → List Bool → List (Bool × ℕ)
+alike n [] = []
+alike n (t ∷ ts) = (t, n) ∷ alike n ts
+
+pub alike-first : (n : ℕ) (ts : List Bool) (us : List (Bool × ℕ)) → firstFailed (alike n ts ++ us) ≡ cond (all ts) (firstFailed us) n
+unfolding firstFailed all
+alike-first n [] us = refl
+alike-first n (true ∷ ts) us = alike-first n ts us
+alike-first n (false ∷ ts) us = refl
 
 -- ---- every number below a bound, from the highest down
 

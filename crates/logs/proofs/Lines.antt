@@ -4,8 +4,7 @@ use mathlib.Core.Path.{_≡_, refl, sym, ap, _∙_}
 use mathlib.Core.Bool.{cond}
 use mathlib.Core.Logic.{_≢_}
 use mathlib.Core.List.{List, [], _∷_, _++_}
-use Prim.Native.Nat.{ℕ, zero, suc, _+_, _*_, _-_, _/_, _%_, _≤_}
-use native.Mathlib.Nat.{zero-sub, suc-sub-suc}
+use Prim.Native.Nat.{ℕ, _+_, _*_, _-_, _/_, _%_, _≤_}
 use native.Mathlib.Omega.{arith}
 use lib.Dec.{ltb}
 use lib.ListN.{length, take, drop, replicate, length-append, length-replicate}
@@ -15,6 +14,7 @@ use Rattle.messages.specs.declared.response.ResponseOctets.{ResponseOctets}
 use Rattle.transactions.specs.Answers.{refused, response, responseSaid}
 use Rattle.foundation.specs.Octets.{put}
 use Rattle.foundation.proofs.Copying.{Grown, grown-none, grown-put, grown-all}
+use Rattle.foundation.proofs.Filling.{drop-zeros}
 use Rattle.foundation.proofs.Tests.{either}
 use Rattle.receiver.specs.Events.{said}
 use Rattle.receiver.specs.declared.event.Answer.{Answer}
@@ -23,11 +23,7 @@ use Rattle.logs.specs.Log.{answer, lineSize, lineOctets, lineIn}
 
 -- zeros behind the contents
 zeros-behind : (n k : ℕ) → take (n - k) (drop k (replicate {A = ℕ} n 0)) ≡ replicate (n - k) 0
-zeros-behind zero k = rw (zero-sub k)
-zeros-behind (suc n) zero =
-    let e : suc n - 0 ≡ suc n = omega arith in
-    rw e (take-all (suc n) (replicate {A = ℕ} (suc n) 0) (omega (arith, length-replicate {A = ℕ} (suc n) 0)))
-zeros-behind (suc n) (suc k) = rw (suc-sub-suc n k) (zeros-behind n k)
+zeros-behind n k = rw (drop-zeros k n) (take-all (n - k) (replicate (n - k) 0) (omega (arith, length-replicate {A = ℕ} (n - k) 0)))
 
 -- the octets before the contents
 abbrev head : ℕ → List ℕ → List ℕ

@@ -2,9 +2,8 @@
 -- Assumes nothing.
 use mathlib.Core.Path.{_≡_, refl, sym, ap, _∙_}
 use mathlib.Core.List.{List, _++_}
-use Prim.Native.Nat.{ℕ, zero, suc, _+_, _*_, _-_, _≤_, _<_}
+use Prim.Native.Nat.{ℕ, _+_, _*_, _-_, _≤_, _<_}
 use native.Mathlib.Decide.{decLt}
-use native.Mathlib.Numerals.{unary-clauses}
 use native.Mathlib.Omega.{arith}
 use lib.ListN.{length, take, drop, getD, replicate, length-append, length-drop, length-replicate}
 use lib.Seq.{length-take-le, take-all, take-append-le, drop-append-le, getD-take, getD-drop, ext-getD}
@@ -13,7 +12,7 @@ use Rattle.foundation.specs.Bits.{tabulate}
 use Rattle.foundation.specs.Octets.{over, put}
 use Rattle.foundation.specs.Order.{firstFailed}
 use Rattle.foundation.proofs.Copying.{put-fits, length-put}
-use Rattle.foundation.proofs.Filling.{getD-padded}
+use Rattle.foundation.proofs.Filling.{getD-padded, drop-zeros}
 use Rattle.foundation.proofs.Runs.{tabulated}
 use Rattle.checks.specs.Checks.{messageCheck, lowestFirst}
 use Rattle.packets.specs.Headers.{writeHeader}
@@ -80,12 +79,6 @@ module _ (n : ℕ) (d : Delivery) where
           (λ i. writeHeader (paddedHeader (p i) d 0 count))
 
 -- ---- octets
-
--- zeros behind the first n of them
-drop-zeros : (n size : ℕ) → drop n (replicate {A = ℕ} size 0) ≡ replicate (size - n) 0
-drop-zeros zero size = simp unary-clauses refl
-drop-zeros (suc n) zero = let none : 0 ≡ 0 - suc n = omega arith in ap (λ (k : ℕ). replicate k 0) none
-drop-zeros (suc n) (suc size) = simp unary-clauses (drop-zeros n size)
 
 module _ (m : List ℕ) where
   length-padded : length (padded m) ≡ length m + padOf (length m)

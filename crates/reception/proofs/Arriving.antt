@@ -23,6 +23,8 @@ use Rattle.reception.specs.declared.Arrival.{Arrival}
 use Rattle.reception.specs.declared.Received.{Received}
 use Rattle.reception.specs.Reception.{Left, received, arrivalOf, arrivedNumber, byReceiver, passedOn, onDatagram}
 use Rattle.reception.specs.Claims.{Arrives}
+use Rattle.foundation.specs.Order.{firstFailed}
+use Rattle.foundation.proofs.Order.{itself}
 use Rattle.reception.proofs.Claims.{claims}
 
 -- what a datagram brings, by what was read of it
@@ -44,18 +46,18 @@ module _ (rx : Receiver) (store d : List ℕ) where
   refused n z e = led (record { received = received rx (Refused n); store = store }) (rw (e, ne-eqb n 0 z))
 
   pub not-good : receiverGood rx ≡ false → Led (received rx (Refused 1)) store
-  unfolding arrivedNumber
+  unfolding arrivedNumber firstFailed
   not-good b = refused 1 (λ z. omega arith) (rw b)
 
   module _ (good : receiverGood rx ≡ true) where
     pub store-not-good : length store ≢ storeSize → Led (received rx (Refused 1)) store
-    unfolding arrivedNumber
+    unfolding arrivedNumber firstFailed
     store-not-good n = refused 1 (λ z. omega arith) (rw (good, ne-eqb (length store) storeSize n))
 
     module _ (sized : length store ≡ storeSize) (x : Arrival) (is : x ≡ arrivalOf d) where
       number-is : arrivedNumber rx store d ≡ x .number
-      unfolding arrivedNumber
-      number-is = rw (good, eq-eqb (length store) storeSize sized, ← is)
+      unfolding arrivedNumber firstFailed
+      number-is = rw (good, eq-eqb (length store) storeSize sized, ← is) (itself (x .number))
 
       pub not-taken : x .number ≢ 0 → Led (received rx (Refused (x .number))) store
       not-taken n = refused (x .number) n number-is

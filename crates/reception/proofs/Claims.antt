@@ -1,6 +1,6 @@
 -- The claims of datagrams at a receiver hold.
 -- Assumes nothing.
-use mathlib.Core.Path.{_≡_, _∙_}
+use mathlib.Core.Path.{_≡_, sym, _∙_}
 use mathlib.Core.Bool.{Bool, true, false, cond}
 use mathlib.Core.List.{List}
 use Prim.Native.Nat.{ℕ, _≤_}
@@ -11,6 +11,8 @@ use borrow.Author.Tests.{eqb-true, eqb-false, eq-eqb}
 use Rattle.bursts.specs.Bursts.{kindOf, known}
 use Rattle.datagrams.specs.Datagrams.{namedType, datagramNumber, readDatagram}
 use Rattle.datagrams.proofs.DatagramClaims.{datagrams}
+use Rattle.foundation.specs.Order.{firstFailed}
+use Rattle.foundation.proofs.Order.{itself}
 use Rattle.foundation.proofs.Tests.{either, never}
 use Rattle.receiver_state.specs.Receiver.{storeSize, receiverGood}
 use Rattle.receiver_state.specs.declared.Receiver.{Receiver}
@@ -34,20 +36,20 @@ brings d e = rw (named d e) (datagrams .zero d .0 (datagrams .numbered d ∙ e) 
 
 module _ (rx : Receiver) (store d : List ℕ) where
   small : arrivedNumber rx store d ≤ 7
-  unfolding arrivedNumber arrivalOf
+  unfolding arrivedNumber arrivalOf firstFailed
   small = go (receiverGood rx) (eqb (length store) storeSize)
     where
-      go : (a b : Bool) → cond a (cond b (datagramNumber d) 1) 1 ≤ 7
-      go true true = omega (arith, datagrams .no-other d, datagrams .numbered d)
+      go : (a b : Bool) → cond a (cond b (cond (eqb (datagramNumber d) 0) 0 (datagramNumber d)) 1) 1 ≤ 7
+      go true true = rw (itself (datagramNumber d)) (omega (arith, datagrams .no-other d, datagrams .numbered d))
       go true false = omega arith
       go false b = omega arith
 
   read : arrivedNumber rx store d ≡ 0 → datagramNumber d ≡ 0
-  unfolding arrivedNumber arrivalOf
+  unfolding arrivedNumber arrivalOf firstFailed
   read e = go (receiverGood rx) (eqb (length store) storeSize) e
     where
-      go : (a b : Bool) → cond a (cond b (datagramNumber d) 1) 1 ≡ 0 → datagramNumber d ≡ 0
-      go true true e = e
+      go : (a b : Bool) → cond a (cond b (cond (eqb (datagramNumber d) 0) 0 (datagramNumber d)) 1) 1 ≡ 0 → datagramNumber d ≡ 0
+      go true true e = sym (itself (datagramNumber d)) ∙ e
       go true false e = absurd (omega arith)
       go false b e = absurd (omega arith)
 

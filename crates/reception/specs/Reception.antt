@@ -1,10 +1,11 @@
 -- What a datagram is to one receiver, what it answers and leaves.
 -- Assumes nothing.
 use mathlib.Core.Bool.{cond}
-use mathlib.Core.List.{List}
+use mathlib.Core.List.{List, [], _∷_}
 use Prim.Native.Nat.{ℕ}
 use lib.Dec.{eqb}
 use lib.ListN.{length}
+use Rattle.foundation.specs.Order.{firstFailed}
 use Rattle.bursts.specs.Bursts.{kindOf}
 use Rattle.bursts.specs.declared.burst.Kind.{Kind}
 use Rattle.bursts.specs.declared.burst.Kind.the-variants.{Header, Block, Other}
@@ -47,9 +48,10 @@ passedOn rx store Header os = record { received = byReceiver (onHeader rx os); s
 passedOn rx store Block os = record { received = byReceiver (onBlock rx store os .step); store = onBlock rx store os .store }
 passedOn rx store Other os = record { received = received rx (Refused 5); store = store }
 
--- the numbers 1 to 7
+-- the order of checks: the receiver, the store's size, then the datagram's numbers, 1 to 7
 unfoldable pub arrivedNumber : Receiver → List ℕ → List ℕ → ℕ
-arrivedNumber rx store d = cond (receiverGood rx) (cond (eqb (length store) storeSize) (arrivalOf d .number) 1) 1
+arrivedNumber rx store d =
+    firstFailed ((receiverGood rx, 1) ∷ (eqb (length store) storeSize, 1) ∷ (eqb (arrivalOf d .number) 0, arrivalOf d .number) ∷ [])
 
 unfoldable pub onDatagram : Receiver → List ℕ → List ℕ → Left
 onDatagram rx store d =

@@ -12,33 +12,15 @@ use lib.ListN.{length, getD, take, drop, length-drop}
 use lib.Seq.{take-all, length-take-le}
 use Rattle.addresses.specs.Octets.{numberAt}
 use Rattle.foundation.specs.Order.{firstFailed, all}
-use Rattle.foundation.proofs.Tests.{last, not-true, choose}
+use Rattle.foundation.proofs.Tests.{last, not-true, choose, same-test}
 use Rattle.checks.specs.Checks.{headerGood}
-use Rattle.foundation.proofs.Order.{all-nil, all-cons, all-at, all-fails, passed}
+use Rattle.foundation.proofs.Order.{all-nil, all-cons, all-at, all-fails, all-append, passed, alike-first}
 use Rattle.packets.proofs.Octets.{Octets}
 use Rattle.receiver_state.specs.Receiver.{storeSize, receiverGood}
 use Rattle.receiver_state.specs.declared.Receiver.{Receiver}
 use Rattle.stored.specs.Stored.{storedBlock, zerosAt, zeroPart, saved, saveNumber, afterSave, block0, block1, receiverIn, storeIn, zerosFrom, clear, layoutTests, restoreTests, restoreNumber, restored, afterRestore}
 use Rattle.stored.specs.Parts.{usable, marked, checked, layoutKept}
 use Rattle.stored.specs.declared.restoring.Restored.{Restored}
-
--- ---- tests that have one number
-
-abbrev alike : ℕ → List Bool → List (Bool × ℕ)
-alike n [] = []
-alike n (t ∷ ts) = (t, n) ∷ alike n ts
-
-alike-first : (n : ℕ) (ts : List Bool) (us : List (Bool × ℕ)) → firstFailed (alike n ts ++ us) ≡ cond (all ts) (firstFailed us) n
-unfolding firstFailed all
-alike-first n [] us = refl
-alike-first n (true ∷ ts) us = alike-first n ts us
-alike-first n (false ∷ ts) us = refl
-
-all-append : (ts us : List Bool) → all (ts ++ us) ≡ cond (all ts) (all us) false
-unfolding all
-all-append [] us = refl
-all-append (true ∷ ts) us = all-append ts us
-all-append (false ∷ ts) us = refl
 
 -- ---- receivers and sizes
 
@@ -61,12 +43,6 @@ module _ (rx : Receiver) (store form : ℕ) where
   usable-first us = alike-first 1 (receiverGood rx ∷ eqb store storeSize ∷ eqb form (2 * storedBlock) ∷ []) us
 
 -- ---- the rules of the layout
-
--- two tests of which each is passed where the other is
-same-test : (s t : Bool) → (s ≡ true → t ≡ true) → (t ≡ true → s ≡ true) → s ≡ t
-same-test true t f g = sym (f refl)
-same-test false true f g = g refl
-same-test false false f g = refl
 
 -- the starts of both blocks as numbers
 module _ (a b : List ℕ) (small-a : Octets a) (small-b : Octets b) (n m : ℕ) (is-n : n ≡ numberAt a 0) (is-m : m ≡ numberAt b 0) where
