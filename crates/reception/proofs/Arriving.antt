@@ -21,7 +21,7 @@ use Rattle.receiver_state.specs.declared.Receiver.{Receiver}
 use Rattle.reception.specs.declared.Answer.the-variants.{Refused}
 use Rattle.reception.specs.declared.Arrival.{Arrival}
 use Rattle.reception.specs.declared.Received.{Received}
-use Rattle.reception.specs.Reception.{Left, received, arrivalOf, arrivedNumber, byReceiver, passedOn, onDatagram}
+use Rattle.reception.specs.Reception.{Left, withAnswer, arrivalOf, arrivedNumber, byReceiver, passedOn, onDatagram}
 use Rattle.reception.specs.Claims.{Arrives}
 use Rattle.foundation.specs.Order.{firstFailed}
 use Rattle.foundation.proofs.Order.{itself}
@@ -41,16 +41,16 @@ module _ (rx : Receiver) (store d : List ℕ) where
   led : (l : Left) → l ≡ onDatagram rx store d → Led (l .received) (l .store)
   led l e = (ap (λ (x : Left). x .received) e, ap (λ (x : Left). x .store) e, claims .datagram rx store d)
 
-  refused : (n : ℕ) → n ≢ 0 → arrivedNumber rx store d ≡ n → Led (received rx (Refused n)) store
+  refused : (n : ℕ) → n ≢ 0 → arrivedNumber rx store d ≡ n → Led (withAnswer rx (Refused n)) store
   unfolding onDatagram
-  refused n z e = led (record { received = received rx (Refused n); store = store }) (rw (e, ne-eqb n 0 z))
+  refused n z e = led (record { received = withAnswer rx (Refused n); store = store }) (rw (e, ne-eqb n 0 z))
 
-  pub not-good : receiverGood rx ≡ false → Led (received rx (Refused 1)) store
+  pub not-good : receiverGood rx ≡ false → Led (withAnswer rx (Refused 1)) store
   unfolding arrivedNumber firstFailed
   not-good b = refused 1 (λ z. omega arith) (rw b)
 
   module _ (good : receiverGood rx ≡ true) where
-    pub store-not-good : length store ≢ storeSize → Led (received rx (Refused 1)) store
+    pub store-not-good : length store ≢ storeSize → Led (withAnswer rx (Refused 1)) store
     unfolding arrivedNumber firstFailed
     store-not-good n = refused 1 (λ z. omega arith) (rw (good, ne-eqb (length store) storeSize n))
 
@@ -59,7 +59,7 @@ module _ (rx : Receiver) (store d : List ℕ) where
       unfolding arrivedNumber firstFailed
       number-is = rw (good, eq-eqb (length store) storeSize sized, ← is) (itself (x .number))
 
-      pub not-taken : x .number ≢ 0 → Led (received rx (Refused (x .number))) store
+      pub not-taken : x .number ≢ 0 → Led (withAnswer rx (Refused (x .number))) store
       not-taken n = refused (x .number) n number-is
 
       module _ (read : x .number ≡ 0) where
@@ -76,6 +76,6 @@ module _ (rx : Receiver) (store d : List ℕ) where
         unfolding passedOn
         block-taken k s next e f = led (record { received = byReceiver s; store = next }) (rw (e, f, ← handed, k))
 
-        pub other-refused : x .kind ≡ Other → Led (received rx (Refused 5)) store
+        pub other-refused : x .kind ≡ Other → Led (withAnswer rx (Refused 5)) store
         unfolding passedOn
-        other-refused k = led (record { received = received rx (Refused 5); store = store }) (rw (← handed, k))
+        other-refused k = led (record { received = withAnswer rx (Refused 5); store = store }) (rw (← handed, k))

@@ -7,11 +7,11 @@ use Rattle.datagrams.specs.Datagrams.{readDatagram}
 use Rattle.receiver_state.specs.declared.Receiver.{Receiver}
 use Rattle.receiver.specs.Events.{onHeader, onBlock}
 use Rattle.reception.specs.declared.Answer.the-variants.{Refused}
-use Rattle.reception.specs.Reception.{received, byReceiver, onDatagram}
+use Rattle.reception.specs.Reception.{withAnswer, byReceiver, onDatagram}
 
 -- what a datagram can be to a receiver: refused with one of 1 to 7, and nothing changes; or exactly its header; or exactly its block
 pub data Arrives (rx : Receiver) (store d : List ℕ) : Type 0 where
-  not-taken : (n : ℕ) → 1 ≤ n → n ≤ 7 → onDatagram rx store d ≡ record { received = received rx (Refused n); store = store } → Arrives rx store d
+  not-taken : (n : ℕ) → 1 ≤ n → n ≤ 7 → onDatagram rx store d ≡ record { received = withAnswer rx (Refused n); store = store } → Arrives rx store d
   a-header : readDatagram d .number ≡ 0 → readDatagram d .datatype ≡ 6
       → onDatagram rx store d ≡ record { received = byReceiver (onHeader rx (readDatagram d .info)); store = store } → Arrives rx store d
   a-block : readDatagram d .number ≡ 0 → readDatagram d .datatype ≡ 7

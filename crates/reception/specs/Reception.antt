@@ -30,12 +30,12 @@ unfoldable pub said : Answer → List ℕ → Said
 said (Refused n) store = refused n
 said (Confirmed a) store = receiver.said a store
 
-abbrev pub received : Receiver → Answer → Received
-received rx a = record { receiver = rx; answer = a }
+abbrev pub withAnswer : Receiver → Answer → Received
+withAnswer rx a = record { receiver = rx; answer = a }
 
 -- what the confirmed receiver's step is
 unfoldable pub byReceiver : Step → Received
-byReceiver s = received (s .receiver) (Confirmed (s .answer))
+byReceiver s = withAnswer (s .receiver) (Confirmed (s .answer))
 
 -- what is received, and the store after it
 pub record Left : Type 0 where
@@ -46,7 +46,7 @@ pub record Left : Type 0 where
 unfoldable pub passedOn : Receiver → List ℕ → Kind → List ℕ → Left
 passedOn rx store Header os = record { received = byReceiver (onHeader rx os); store = store }
 passedOn rx store Block os = record { received = byReceiver (onBlock rx store os .step); store = onBlock rx store os .store }
-passedOn rx store Other os = record { received = received rx (Refused 5); store = store }
+passedOn rx store Other os = record { received = withAnswer rx (Refused 5); store = store }
 
 -- the order of checks: the receiver, the store's size, then the datagram's numbers, 1 to 7
 unfoldable pub arrivedNumber : Receiver → List ℕ → List ℕ → ℕ
@@ -56,4 +56,4 @@ arrivedNumber rx store d =
 unfoldable pub onDatagram : Receiver → List ℕ → List ℕ → Left
 onDatagram rx store d =
     cond (eqb (arrivedNumber rx store d) 0) (passedOn rx store (arrivalOf d .kind) (arrivalOf d .octets))
-    (record { received = received rx (Refused (arrivedNumber rx store d)); store = store })
+    (record { received = withAnswer rx (Refused (arrivedNumber rx store d)); store = store })

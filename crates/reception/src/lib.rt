@@ -1,6 +1,6 @@
 // Reception: datagrams at one receiver. What a datagram is, is decided here and nowhere else.
 ghost use mathlib.Core.Path.{_≡_};
-ghost use Rattle.reception.specs.Reception.{arrivalOf, received, byReceiver, onDatagram};
+ghost use Rattle.reception.specs.Reception.{arrivalOf, withAnswer, byReceiver, onDatagram};
 ghost use Rattle.reception.specs.Claims.{Arrives};
 ghost use Rattle.reception.specs.declared.Answer.the-variants.{Refused};
 use bursts::burst::Kind;
@@ -42,7 +42,7 @@ pub fn arrival_of(datagram: &[u8]) -> Arrival
 }
 
 fn refused(rx: Receiver, number: u8) -> Received
-    ensures { λ r. ⌜ r ≡ received rx (Refused number) ⌝ }
+    ensures { λ r. ⌜ r ≡ withAnswer rx (Refused number) ⌝ }
 {
     Received {
         receiver: rx,
