@@ -8,14 +8,14 @@ use lib.Dec.{eqb}
 use lib.ListN.{length, replicate}
 use borrow.Author.Tests.{eq-eqb, ne-eqb, eqb-true, lt-ltb, le-ltb}
 use Rattle.foundation.specs.Bits.{octetBit}
-use Rattle.foundation.proofs.Runs.{followed-bits, number-lt, octetBit-bits}
+use Rattle.foundation.proofs.Runs.{followed-bits, value-lt, octetBit-bits}
 use Rattle.foundation.specs.Order.{firstFailed}
 use Rattle.codes.specs.SlotWord.{readSlotType, slotNumber}
 use Rattle.codes.specs.Field.{readField}
 use Rattle.codes.specs.declared.block_field.BlockField.{BlockField}
 use Rattle.codes.specs.declared.slot_type.SlotType.the-variants.{Data, TooWide}
 use Rattle.codes.proofs.SlotReading.{corrects}
-use Rattle.bursts.specs.Bursts.{kindOf, known, slotBits, fieldOf, slotData, burstSlot, burstField, colourOf, typeOf, burstNumber, refusedBurst, readBurst, partTests, writtenBurst, writeBurst}
+use Rattle.bursts.specs.Bursts.{kindOf, known, slotBits, fieldOf, slotData, burstSlot, burstField, colourOf, typeOf, burstNumber, refusedBurst, readBurst, burstPartTests, writtenBurst, writeBurst}
 use Rattle.bursts.specs.Parts.{Typed}
 use Rattle.bursts.specs.BurstClaims.{Near}
 use Rattle.bursts.specs.declared.burst.Sync.{Sync}
@@ -35,7 +35,7 @@ module _ (b : List ℕ) where
   slot-lt : slotBits b < 2 ^ 20
   unfolding slotBits
   slot-lt =
-      number-lt _ (followed-bits 10 (λ p. octetBit b (98 + p)) (λ p. octetBit b (156 + p)) (λ p. octetBit-bits b (98 + p)) (λ p. octetBit-bits b (156 + p))) 0 20
+      value-lt _ (followed-bits 10 (λ p. octetBit b (98 + p)) (λ p. octetBit b (156 + p)) (λ p. octetBit-bits b (98 + p)) (λ p. octetBit-bits b (156 + p))) 0 20
 
   -- a codeword near is the slot type
   pub near-slot : (d : ℕ) → length b ≡ 33 → Near b d → burstSlot b ≡ Data d
@@ -110,13 +110,13 @@ module _ (b : List ℕ) where
 
 module _ (colour type : ℕ) (info : List ℕ) (sync : Sync) where
   pub write-wide : 16 ≤ colour → record { number = 16; octets = replicate 33 0 } ≡ writeBurst colour type info sync
-  unfolding writeBurst partTests firstFailed
+  unfolding writeBurst burstPartTests firstFailed
   write-wide h = rw (le-ltb colour 16 h)
 
   pub write-other : colour < 16 → known (kindOf type) ≡ false → record { number = 16; octets = replicate 33 0 } ≡ writeBurst colour type info sync
-  unfolding writeBurst partTests firstFailed
+  unfolding writeBurst burstPartTests firstFailed
   write-other h k = rw (lt-ltb colour 16 h, k)
 
   pub write-good : colour < 16 → known (kindOf type) ≡ true → record { number = 0; octets = writtenBurst colour type info sync } ≡ writeBurst colour type info sync
-  unfolding writeBurst partTests firstFailed
+  unfolding writeBurst burstPartTests firstFailed
   write-good h k = rw (lt-ltb colour 16 h, k)

@@ -11,8 +11,8 @@ use lib.Bits.{xor-self}
 use lib.Count.{ones}
 use lib.Dec.{lit≤}
 use lib.ListN.{getD, length}
-use Rattle.foundation.specs.Bits.{digits, octetBit, zeros, followed, number, octets}
-use Rattle.foundation.proofs.Runs.{octetBit-octets, octets-ext, followed-bits, followed-first, followed-rest, zeros-bits, number-one, number-append, number-whole}
+use Rattle.foundation.specs.Bits.{digits, octetBit, zeros, followed, valueOf, octets}
+use Rattle.foundation.proofs.Runs.{octetBit-octets, octets-ext, followed-bits, followed-first, followed-rest, zeros-bits, value-one, value-append, value-whole}
 use Rattle.codes.specs.SlotWord.{slotWord, distance}
 use Rattle.codes.specs.Field.{plainAt, information, product, plain, sentBits, sent, writtenField, readField, Correctable}
 use Rattle.codes.proofs.SlotWords.{slotWord-lt}
@@ -24,7 +24,7 @@ use Rattle.bursts.specs.Parts.{fieldRun}
 use Rattle.bursts.specs.declared.burst.Burst.{Burst}
 use Rattle.bursts.specs.declared.burst.BurstOctets.{BurstOctets}
 use Rattle.bursts.specs.declared.burst.Sync.{Sync}
-use Rattle.foundation.proofs.RunParts.{number-octets, octetBit-past, length-octets}
+use Rattle.foundation.proofs.RunParts.{value-octets, octetBit-past, length-octets}
 use Rattle.bursts.proofs.DataTypes.{known-lt}
 use Rattle.bursts.proofs.Reading.{slot-halves, field-behind}
 use Rattle.bursts.proofs.Writing.{burst-bits, in-field, in-slot, in-slot-end, in-field-end}
@@ -39,9 +39,9 @@ module _ (f : List ℕ) (w s : ℕ) where
   b : List ℕ
   b = octets 33 (burstBits f w s)
 
-  burst-number : (at n : ℕ) → at + n ≤ 264 → number (octetBit b) at n ≡ number (burstBits f w s) at n
+  burst-number : (at n : ℕ) → at + n ≤ 264 → valueOf (octetBit b) at n ≡ valueOf (burstBits f w s) at n
   unfolding b
-  burst-number at n h = number-octets 33 (burstBits f w s) (burst-bits f w s) at n h
+  burst-number at n h = value-octets 33 (burstBits f w s) (burst-bits f w s) at n h
 
   pub slot-back : w < 2 ^ 20 → slotBits (octets 33 (burstBits f w s)) ≡ w
   unfolding b
@@ -49,7 +49,7 @@ module _ (f : List ℕ) (w s : ℕ) where
       slot-halves b
       ∙ ap₂ (λ (x y : ℕ). x * 1024 + y) (burst-number 98 10 (lit≤ tt) ∙ in-slot f w s 98 10 (lit≤ tt) (lit≤ tt))
       (burst-number 156 10 (lit≤ tt) ∙ in-slot-end f w s 156 10 (lit≤ tt) (lit≤ tt))
-      ∙ sym (number-append (digits 20 w) 0 10 10) ∙ number-whole 20 w h
+      ∙ sym (value-append (digits 20 w) 0 10 10) ∙ value-whole 20 w h
 
   -- bit i of the block field
   field-bit : (i : ℕ) → i < 196 → fieldRun b i ≡ octetBit f i
@@ -57,11 +57,11 @@ module _ (f : List ℕ) (w s : ℕ) where
     where
       go : Dec (i < 98) → fieldRun b i ≡ octetBit f i
       go (yes l) =
-          followed-first 98 (octetBit b) (λ p. octetBit b (166 + p)) i l ∙ sym (number-one (octetBit b) i) ∙ burst-number i 1 (omega arith)
-          ∙ in-field f w s i 1 (omega arith) ∙ number-one (octetBit f) i
+          followed-first 98 (octetBit b) (λ p. octetBit b (166 + p)) i l ∙ sym (value-one (octetBit b) i) ∙ burst-number i 1 (omega arith)
+          ∙ in-field f w s i 1 (omega arith) ∙ value-one (octetBit f) i
       go (no l) =
-          sym (number-one (fieldRun b) i) ∙ field-behind b i 1 (omega arith) ∙ burst-number (i + 68) 1 (omega arith)
-          ∙ in-field-end f w s (i + 68) 1 (omega arith) ∙ number-one (octetBit f) (i + 68 - 68) ∙ ap (octetBit f) place
+          sym (value-one (fieldRun b) i) ∙ field-behind b i 1 (omega arith) ∙ burst-number (i + 68) 1 (omega arith)
+          ∙ in-field-end f w s (i + 68) 1 (omega arith) ∙ value-one (octetBit f) (i + 68 - 68) ∙ ap (octetBit f) place
         where
           place : i + 68 - 68 ≡ i
           place = omega arith

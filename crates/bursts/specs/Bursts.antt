@@ -6,7 +6,7 @@ use mathlib.Core.List.{List, [], _∷_}
 use Prim.Native.Nat.{ℕ, _+_, _*_, _/_, _%_}
 use lib.Dec.{eqb, ltb}
 use lib.ListN.{length, replicate}
-use Rattle.foundation.specs.Bits.{digits, octetBit, followed, number, octets}
+use Rattle.foundation.specs.Bits.{digits, octetBit, followed, valueOf, octets}
 use Rattle.foundation.specs.Order.{firstFailed}
 use Rattle.codes.specs.SlotWord.{slotWord, readSlotType, slotNumber}
 use Rattle.codes.specs.Field.{writtenField, readField}
@@ -33,7 +33,7 @@ known Other = false
 
 -- the 20 bits of the slot type
 unfoldable pub slotBits : List ℕ → ℕ
-slotBits b = number (followed 10 (λ p. octetBit b (98 + p)) (λ p. octetBit b (156 + p))) 0 20
+slotBits b = valueOf (followed 10 (λ p. octetBit b (98 + p)) (λ p. octetBit b (156 + p))) 0 20
 
 -- the block field in 25 octets
 unfoldable pub fieldOf : List ℕ → List ℕ
@@ -90,12 +90,12 @@ unfoldable pub writtenBurst : ℕ → ℕ → List ℕ → Sync → List ℕ
 writtenBurst colour type info sync = octets 33 (burstBits (writtenField info) (slotWord (16 * colour + type)) (syncWord sync))
 
 -- the writer's tests: a colour code of four bits, data type 6 or 7
-unfoldable pub partTests : ℕ → ℕ → List (Bool × ℕ)
-partTests colour type = (ltb colour 16, 16) ∷ (known (kindOf type), 16) ∷ []
+unfoldable pub burstPartTests : ℕ → ℕ → List (Bool × ℕ)
+burstPartTests colour type = (ltb colour 16, 16) ∷ (known (kindOf type), 16) ∷ []
 
 -- what the writer answers; zeros beside the number of a refusal
 unfoldable pub writeBurst : ℕ → ℕ → List ℕ → Sync → BurstOctets
 writeBurst colour type info sync = record {
-  number = firstFailed (partTests colour type);
-  octets = cond (eqb (firstFailed (partTests colour type)) 0) (writtenBurst colour type info sync) (replicate 33 0);
+  number = firstFailed (burstPartTests colour type);
+  octets = cond (eqb (firstFailed (burstPartTests colour type)) 0) (writtenBurst colour type info sync) (replicate 33 0);
 }

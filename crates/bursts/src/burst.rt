@@ -2,7 +2,7 @@
 ghost use mathlib.Core.Path.{_≡_};
 ghost use lib.ListN.{length};
 ghost use Prim.Native.Nat.{_*_, _%_, _<_};
-ghost use Rattle.foundation.specs.Bits.{number, octets};
+ghost use Rattle.foundation.specs.Bits.{valueOf, octets};
 ghost use Rattle.bursts.specs.Bursts.{kindOf, slotBits, fieldOf, burstSlot, burstField, refusedBurst, readBurst, syncWord, burstBits, writtenBurst, writeBurst};
 ghost use Rattle.bursts.specs.BurstClaims.{BurstComesBack};
 ghost use Rattle.bursts.specs.Parts.{fieldRun, Typed};
@@ -77,7 +77,7 @@ pub fn slot_type(burst: &[u8]) -> SlotType
 // Octet j of the block field: octets 0 to 11 of the burst, the bits around the middle, and the rest four bits on.
 fn field_octet(b: &[u8], j: usize) -> u8
     requires { ⌜ (length (now b) ≡ 33) × (j < 25) ⌝ }
-    ensures { λ r. ⌜ r ≡ number (fieldRun (now (b .entry))) (8 * j) 8 ⌝ }
+    ensures { λ r. ⌜ r ≡ valueOf (fieldRun (now (b .entry))) (8 * j) 8 ⌝ }
 {
     if j < 12 {
         return b[j];
@@ -182,7 +182,7 @@ fn low(x: u64) -> u8
 // Octet j of a burst with this block field, slot type and sync.
 fn burst_octet(f: &[u8], slot: u64, sync: u64, j: usize) -> u8
     requires { ⌜ (length (now f) ≡ 25) × (j < 33) ⌝ }
-    ensures { λ r. ⌜ r ≡ number (burstBits (now (f .entry)) slot sync) (8 * j) 8 ⌝ }
+    ensures { λ r. ⌜ r ≡ valueOf (burstBits (now (f .entry)) slot sync) (8 * j) 8 ⌝ }
 {
     if j < 12 {
         return f[j];

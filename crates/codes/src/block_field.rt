@@ -2,7 +2,7 @@
 ghost use mathlib.Core.Path.{_≡_};
 ghost use Prim.Native.Nat.{ℕ, _+_, _*_, _<_};
 ghost use lib.ListN.{length, getD};
-ghost use Rattle.foundation.specs.Bits.{digits, octetBit, zeros, followed, number, tabulate};
+ghost use Rattle.foundation.specs.Bits.{digits, octetBit, zeros, followed, valueOf, tabulate};
 ghost use Rattle.codes.specs.Hamming.{syndrome, withParity};
 ghost use Rattle.codes.specs.Field.{information, product, plain, sent, writtenField, received, columnsGood, infoBit, infoOctets, readField};
 ghost use Rattle.codes.specs.Claims.{FieldComesBack};
@@ -128,7 +128,7 @@ fn wide(x: u16) -> u32
 // Information octet j: eight of the 22 information bits in two rows.
 fn info_octet(m: [u16; 13], j: usize) -> u8
     requires { ⌜ j < 12 ⌝ }
-    ensures { λ r. ⌜ r ≡ number (infoBit (cell m)) (8 * j) 8 ⌝ }
+    ensures { λ r. ⌜ r ≡ valueOf (infoBit (cell m)) (8 * j) 8 ⌝ }
 {
     let q = (8 * j + 3) / 11;
     let high = wide(m[q] / 16 % 2048);
@@ -174,7 +174,7 @@ fn field_bit(f: &[u8], i: usize) -> u16
 // Row r of a field.
 fn field_row(f: &[u8], r: usize) -> u16
     requires { ⌜ (length (now f) ≡ 25) × (r < 13) ⌝ }
-    ensures { λ x. ⌜ x ≡ number (received (now (f .entry)) r) 0 15 ⌝ }
+    ensures { λ x. ⌜ x ≡ valueOf (received (now (f .entry)) r) 0 15 ⌝ }
 {
     let mut x: u16 = 0;
     for c in 0..15 {
@@ -186,7 +186,7 @@ fn field_row(f: &[u8], r: usize) -> u16
 // The 13 rows of a field.
 fn field_rows(f: &[u8]) -> [u16; 13]
     requires { ⌜ length (now f) ≡ 25 ⌝ }
-    ensures { λ m. ⌜ m ≡ tabulate 13 (λ r. number (received (now (f .entry)) r) 0 15) ⌝ }
+    ensures { λ m. ⌜ m ≡ tabulate 13 (λ r. valueOf (received (now (f .entry)) r) 0 15) ⌝ }
 {
     [
         field_row(f, 0),
@@ -244,7 +244,7 @@ fn data_bit(info: [u8; 12], i: usize) -> u16
 // The eleven data bits of row r.
 fn data_row(info: [u8; 12], r: usize) -> u16
     requires { ⌜ r < 9 ⌝ }
-    ensures { λ x. ⌜ x ≡ number (information info r) 0 11 ⌝ }
+    ensures { λ x. ⌜ x ≡ valueOf (information info r) 0 11 ⌝ }
 {
     let mut x: u16 = 0;
     for c in 0..11 {
@@ -256,7 +256,7 @@ fn data_row(info: [u8; 12], r: usize) -> u16
 // Eleven data bits with their four parity bits.
 fn coded_row(x: u16) -> u16
     requires { ⌜ x < 2048 ⌝ }
-    ensures { λ w. ⌜ w ≡ number (withParity 11 (digits 11 x)) 0 15 ⌝ }
+    ensures { λ w. ⌜ w ≡ valueOf (withParity 11 (digits 11 x)) 0 15 ⌝ }
 {
     let w = x * 16;
     w ^ row_remainder(w)
@@ -311,7 +311,7 @@ fn sent_bit(p: &[u8; 196], q: usize) -> u8
 // Octet j of the field.
 fn sent_octet(p: &[u8; 196], j: usize) -> u8
     requires { ⌜ (j < 25) × PlainBits (now p) ⌝ }
-    ensures { λ x. ⌜ x ≡ number (sentRun (now (p .entry))) (8 * j) 8 ⌝ }
+    ensures { λ x. ⌜ x ≡ valueOf (sentRun (now (p .entry))) (8 * j) 8 ⌝ }
 {
     let mut x: u8 = 0;
     for i in 0..8 {

@@ -18,7 +18,7 @@ use Rattle.codes.specs.declared.slot_type.SlotType.{SlotType}
 use Rattle.codes.specs.declared.slot_type.SlotType.the-variants.{Data, NoCodeword, TooWide}
 use Rattle.codes.proofs.SlotReading.{reads-near}
 use Rattle.foundation.proofs.Tests.{choose, cond-lt, cond-ge, not-true, exactly}
-use Rattle.bursts.specs.Bursts.{kindOf, known, slotBits, fieldOf, partTests, writtenBurst}
+use Rattle.bursts.specs.Bursts.{kindOf, known, slotBits, fieldOf, burstPartTests, writtenBurst}
 use Rattle.bursts.specs.BurstClaims.{Near}
 use Rattle.datagrams.specs.Datagrams.{prefix, prefixed, frameOf, namedType, burstOf, datagramNumber, readDatagram, writtenDatagram, labelTests, writeNumber, writeDatagram}
 use Rattle.datagrams.specs.DatagramClaims.{Fits, Unprefixed, OtherFrame, Framed, NoSlotType, WrongType, FieldOf, Outside}
@@ -198,7 +198,7 @@ last-row false = (λ e. refl, λ e. refl)
 
 module _ (l : Labels) (colour type : ℕ) (info : List ℕ) (sync : Sync) where
   pub sixteen : (writeDatagram l colour type info sync .number ≡ 16) ↔ Outside l colour type
-  unfolding writeDatagram writeNumber labelTests partTests firstFailed
+  unfolding writeDatagram writeNumber labelTests burstPartTests firstFailed
   sixteen =
       row (l .source .0) (2 ^ 24) _ (row (l .target .0) (2 ^ 24) _ (row (l .timeslot) 2 _ (row (l .call) 2 _ (row colour 16 _ (last-row (known (kindOf type)))))))
 

@@ -9,7 +9,7 @@ use lib.Dec.{eqb, ltb}
 use lib.ListN.{replicate}
 use borrow.Author.Tests.{ne-eqb, lt-ltb, le-ltb, ltb-true}
 use Rattle.foundation.specs.Order.{firstFailed}
-use Rattle.bursts.specs.Bursts.{kindOf, known, partTests, writtenBurst, writeBurst}
+use Rattle.bursts.specs.Bursts.{kindOf, known, burstPartTests, writtenBurst, writeBurst}
 use Rattle.datagrams.specs.Datagrams.{labelOctets, writtenDatagram, labelTests, writeNumber, writeDatagram}
 use Rattle.datagrams.specs.DatagramParts.{labelsFit}
 use Rattle.bursts.specs.declared.burst.BurstOctets.{BurstOctets}
@@ -19,8 +19,8 @@ use Rattle.datagrams.specs.declared.Labels.{Labels}
 use Rattle.bursts.proofs.DataTypes.{known-lt}
 
 -- colour code and data type that pass their tests
-pub parts-known : (colour type : ℕ) → firstFailed (partTests colour type) ≡ 0 → (colour < 16) × (known (kindOf type) ≡ true)
-unfolding partTests firstFailed
+pub parts-known : (colour type : ℕ) → firstFailed (burstPartTests colour type) ≡ 0 → (colour < 16) × (known (kindOf type) ≡ true)
+unfolding burstPartTests firstFailed
 parts-known colour type h = go (ltb colour 16) (known (kindOf type)) refl refl h
   where
     go : (x y : Bool) → ltb colour 16 ≡ x → known (kindOf type) ≡ y → _≡_ {A = ℕ} (cond x (cond y 0 16) 16) 0 → (colour < 16) × (known (kindOf type) ≡ true)
@@ -69,9 +69,9 @@ module _ (l : Labels) where
   -- ---- the number and the octets
 
   module _ (colour type : ℕ) where
-    pub number-written : writeNumber l colour type ≡ cond (labelsFit l) (firstFailed (partTests colour type)) 16
+    pub number-written : writeNumber l colour type ≡ cond (labelsFit l) (firstFailed (burstPartTests colour type)) 16
     unfolding writeNumber labelTests firstFailed labelsFit
-    number-written = go (ltb (l .source .0) (2 ^ 24)) (ltb (l .target .0) (2 ^ 24)) (ltb (l .timeslot) 2) (ltb (l .call) 2) (firstFailed (partTests colour type))
+    number-written = go (ltb (l .source .0) (2 ^ 24)) (ltb (l .target .0) (2 ^ 24)) (ltb (l .timeslot) 2) (ltb (l .call) 2) (firstFailed (burstPartTests colour type))
       where
         go : (a b x y : Bool) (n : ℕ) → cond a (cond b (cond x (cond y n 16) 16) 16) 16 ≡ cond (eqb (cond a (cond b (cond x (cond y 0 16) 16) 16) 16) 0) n 16
         go true true true true n = refl
@@ -89,7 +89,7 @@ module _ (l : Labels) where
       module _ (f : labelsFit l ≡ true) (b : BurstOctets) (e : b ≡ writeBurst colour type info sync) where
         part-number : writeNumber l colour type ≡ b .number
         unfolding writeBurst
-        part-number = number-written ∙ ap (λ (t : Bool). cond t (firstFailed (partTests colour type)) 16) f ∙ sym (ap (λ x. x .number) e)
+        part-number = number-written ∙ ap (λ (t : Bool). cond t (firstFailed (burstPartTests colour type)) 16) f ∙ sym (ap (λ x. x .number) e)
 
         pub write-refused : (b .number ≡ 0 → ⊥) → record { number = b .number; octets = replicate 53 0 } ≡ writeDatagram l colour type info sync
         unfolding writeDatagram

@@ -9,7 +9,7 @@ use lib.ListN.{length, getD, drop, replicate}
 use Rattle.addresses.specs.Octets.{addressAt, threeOctets, fourOctets, numberAt}
 use Rattle.foundation.specs.Order.{every, firstFailed}
 use Rattle.codes.specs.SlotWord.{slotNumber}
-use Rattle.bursts.specs.Bursts.{kindOf, known, burstSlot, burstField, colourOf, typeOf, writtenBurst, partTests}
+use Rattle.bursts.specs.Bursts.{kindOf, known, burstSlot, burstField, colourOf, typeOf, writtenBurst, burstPartTests}
 use Rattle.bursts.specs.declared.burst.Sync.{Sync}
 use Rattle.datagrams.specs.declared.Datagram.{Datagram}
 use Rattle.datagrams.specs.declared.DatagramOctets.{DatagramOctets}
@@ -90,7 +90,7 @@ labelTests l =
     (ltb (l .source .0) (2 ^ 24), 16) ∷ (ltb (l .target .0) (2 ^ 24), 16) ∷ (ltb (l .timeslot) 2, 16) ∷ (ltb (l .call) 2, 16) ∷ []
 
 unfoldable pub writeNumber : Labels → ℕ → ℕ → ℕ
-writeNumber l colour type = firstFailed (labelTests l ++ partTests colour type)
+writeNumber l colour type = firstFailed (labelTests l ++ burstPartTests colour type)
 
 unfoldable pub writeDatagram : Labels → ℕ → ℕ → List ℕ → Sync → DatagramOctets
 writeDatagram l colour type info sync = record {

@@ -15,7 +15,7 @@ use Rattle.transactions.specs.Flags.{withFlag}
 use Rattle.transactions.specs.Answers.{Said, refused, opened, repeat, stored, bad, message, response, numberOf, responseSaid}
 use Rattle.foundation.proofs.Tests.{either}
 use Rattle.receiver_state.specs.Receiver.{held, allHeld}
-use Rattle.receiver.specs.Events.{said, changed, headerNumber, onHeader, putBlock, blockNumber, completed, taken, onBlock, onEnd}
+use Rattle.receiver.specs.Events.{said, changed, headerRefusal, onHeader, putBlock, blockRefusal, completed, taken, onBlock, onEnd}
 use Rattle.receiver_state.specs.declared.Receiver.{Receiver}
 use Rattle.history.specs.History.{Event, header, block, ended}
 use Rattle.history.specs.Run.{State, answerTo}
@@ -79,17 +79,17 @@ taken-numbered rx store other =
 pub numbered : (s : State) (e : Event) → Numbered (answerTo s e)
 unfolding answerTo said onHeader onBlock responseSaid
 numbered s (header h) =
-    either (eqb (headerNumber (s .receiver) h) 0)
+    either (eqb (headerRefusal (s .receiver) h) 0)
     (λ a. either (repeats (s .receiver .phase) (s .receiver .transaction) h) (λ b. simp (a, b) tt)
     (λ b. either (isFull h) (λ c. simp (a, b, c) tt) (λ c. simp (a, b, c) (λ z. omega arith))))
-    (λ a. simp a (eqb-false (headerNumber (s .receiver) h) 0 a))
+    (λ a. simp a (eqb-false (headerRefusal (s .receiver) h) 0 a))
 numbered s (block b) =
-    either (eqb (blockNumber (s .receiver) (s .store) b) 0)
+    either (eqb (blockRefusal (s .receiver) (s .store) b) 0)
     (λ a. either (held (s .receiver) (serialOf b)) (λ c. simp (a, c) tt)
     (λ c. simp (a, c)
     (taken-numbered (changed (s .receiver) 1 (withFlag (s .receiver .flags) (serialOf b))) (putBlock (s .store) (serialOf b) (dataOf b))
     (putBlock (s .store) (serialOf b) (dataOf b)))))
-    (λ a. simp a (eqb-false (blockNumber (s .receiver) (s .store) b) 0 a))
+    (λ a. simp a (eqb-false (blockRefusal (s .receiver) (s .store) b) 0 a))
 numbered s ended =
     either (eqb (onEnd (s .receiver) .number) 0) (λ a. simp a tt) (λ a. simp a (eqb-false (onEnd (s .receiver) .number) 0 a))
 

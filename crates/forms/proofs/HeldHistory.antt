@@ -30,7 +30,7 @@ use Rattle.logs.specs.Log.{stateOf}
 
 unfoldable pub keptBelow : (ℕ → Bool) → (ℕ → List ℕ) → ℕ → List Kept
 keptBelow f octets zero = []
-keptBelow f octets (suc k) = cond (f k) (record { number = k; octets = octets k } ∷ keptBelow f octets k) (keptBelow f octets k)
+keptBelow f octets (suc k) = cond (f k) (record { serial = k; octets = octets k } ∷ keptBelow f octets k) (keptBelow f octets k)
 
 module _ (f : ℕ → Bool) (octets : ℕ → List ℕ) where
   below-none : (k n : ℕ) → f n ≡ false → holds (keptBelow f octets k) n ≡ false

@@ -1,4 +1,4 @@
--- Events on the stored form: a receiver is restored from its stored form, takes an event, and leaves its new stored form. A refusal changes
+-- Events on the stored form: a receiver is restarted from its stored form, takes an event, and leaves its new stored form. A refusal changes
 -- nothing.
 -- Assumes nothing.
 use mathlib.Core.Bool.{cond}
@@ -17,7 +17,7 @@ use Rattle.receiver_state.specs.Receiver.{storeSize, freshReceiver, freshFor}
 use Rattle.stored.specs.Stored.{storedBlock, saved, block0, block1, receiverIn, storeIn, restoreNumber}
 use Rattle.history.specs.History.{header, block}
 use Rattle.history.specs.Run.{event, State, savedForm}
-use Rattle.logs.specs.Log.{Record, act, none, Line, answer, restored, lineOf, afterRecord, lineIn, lineSize, stateOf}
+use Rattle.logs.specs.Log.{Record, act, none, Line, answer, restarted, lineOf, afterRecord, lineIn, lineSize, stateOf}
 
 -- ---- a fresh form
 
@@ -44,7 +44,7 @@ formNumber form = restoreNumber (freshReceiver (addressAt form 5)) form (replica
 -- the number of an answer
 unfoldable pub lineNumber : Line → ℕ
 lineNumber (answer s) = numberOf s
-lineNumber (restored form) = 0
+lineNumber (restarted form) = 0
 
 -- the order of checks of a record: the line's size, the form's numbers, then the given number and the answer's
 unfoldable pub eventNumber : List ℕ → List ℕ → ℕ → Record → ℕ

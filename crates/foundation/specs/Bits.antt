@@ -31,10 +31,10 @@ zeros p = 0
 unfoldable pub followed : ℕ → (ℕ → ℕ) → (ℕ → ℕ) → ℕ → ℕ
 followed k u v p = cond (ltb p k) (u p) (v (p - k))
 
--- the number that k bits make from position `at` on, the first the highest
-unfoldable pub number : (ℕ → ℕ) → ℕ → ℕ → ℕ
-number u at zero = 0
-number u at (suc k) = number u at k * 2 + u (at + k)
+-- the value that k bits make from position `at` on, the first the highest
+unfoldable pub valueOf : (ℕ → ℕ) → ℕ → ℕ → ℕ
+valueOf u at zero = 0
+valueOf u at (suc k) = valueOf u at k * 2 + u (at + k)
 
 -- the list f 0, f 1, .. of n elements
 abbrev pub tabulate : ℕ → (ℕ → ℕ) → List ℕ
@@ -43,4 +43,4 @@ tabulate (suc n) f = f 0 ∷ tabulate n (λ k. f (suc k))
 
 -- the n octets that a run of bits makes
 unfoldable pub octets : ℕ → (ℕ → ℕ) → List ℕ
-octets n u = tabulate n (λ j. number u (8 * j) 8)
+octets n u = tabulate n (λ j. valueOf u (8 * j) 8)

@@ -22,7 +22,7 @@ use Rattle.foundation.proofs.Tests.{either, never}
 use Rattle.foundation.proofs.Order.{all-nil, all-cons, all-at, passed}
 use Rattle.transactions.proofs.FlagOctets.{flagged-with, octets-with, length-with}
 use Rattle.receiver_state.specs.Receiver.{blockAt, storeSize, noFlags, held, allHeld, transactionGood}
-use Rattle.receiver.specs.Events.{said, answered, changed, putBlock, blockNumber, completed, taken, onBlock}
+use Rattle.receiver.specs.Events.{said, answered, changed, putBlock, blockRefusal, completed, taken, onBlock}
 use Rattle.receiver.specs.declared.event.Answer.the-variants.{Bad, Message}
 use Rattle.receiver.proofs.StoreBlocks.{length-put, at-put-same, at-put-other}
 use Rattle.history.specs.History.{History, block, holds, heldData, valid, keeping, whole, messageOf, afterBlock, after, keptNumber, handedOn, blockSaid, saidTo}
@@ -54,8 +54,8 @@ unfolding takenNumber takenTests blockTests valid firstFailed
 new-taken p x b v = simp (all-at _ 0 v, all-at _ 1 v, all-at _ 2 v, all-at _ 3 v)
 
 module _ (own : RadioAddress) (s : State) (p : History) (m : Follows own s p) (b : List ℕ) where
-  number : blockNumber (s .receiver) (s .store) b ≡ keptNumber p b
-  unfolding blockNumber keptNumber
+  number : blockRefusal (s .receiver) (s .store) b ≡ keptNumber p b
+  unfolding blockRefusal keptNumber
   number =
       rw (good own s p m, eq-eqb (length (s .store)) storeSize (m .room), m .agrees .flags (serialOf b), m .agrees .phase, m .agrees .transaction)
       (unlooked (p .phase) (p .transaction) (holds (p .kept) (serialOf b)) (blockAt (s .store) (serialOf b)) (heldData (p .kept) (serialOf b)) b

@@ -116,14 +116,14 @@ module _ (m : List ℕ) (d : Delivery) (short : length m ≤ mostOctets) (k : �
   check-good : blockGood b ≡ true
   check-good = written-good k (blockData m k) narrow
 
-  kept-is : _≡_ {A = Kept} (record { number = serialOf b; octets = dataOf b }) (record { number = k; octets = blockData m k })
+  kept-is : _≡_ {A = Kept} (record { serial = serialOf b; octets = dataOf b }) (record { serial = k; octets = blockData m k })
   unfolding serialOf dataOf
   kept-is =
-      ap (λ (r : Block). record { number = r .serial; octets = r .octets })
+      ap (λ (r : Block). record { serial = r .serial; octets = r .octets })
       (sym (blocks .fields b twelve check-good) ∙ block-back k (blockData m k) narrow ten)
 
   serial : serialOf b ≡ k
-  serial = ap (λ (j : Kept). j .number) kept-is
+  serial = ap (λ (j : Kept). j .serial) kept-is
 
   keeping-is : keeping (before m d k) b ≡ keptTo m (suc k)
   unfolding keeping before keptTo

@@ -21,24 +21,24 @@ pub holds-none : (n : ℕ) → holds [] n ≡ false
 unfolding holds
 holds-none n = refl
 
-pub holds-more : (ks : List Kept) (k : Kept) (n : ℕ) → holds (ks ++ (k ∷ [])) n ≡ cond (eqb (k .number) n) true (holds ks n)
+pub holds-more : (ks : List Kept) (k : Kept) (n : ℕ) → holds (ks ++ (k ∷ [])) n ≡ cond (eqb (k .serial) n) true (holds ks n)
 unfolding holds
 holds-more [] k n = refl
-holds-more (j ∷ ks) k n = rw (holds-more ks k n) (either-order (eqb (j .number) n) (eqb (k .number) n) (holds ks n))
+holds-more (j ∷ ks) k n = rw (holds-more ks k n) (either-order (eqb (j .serial) n) (eqb (k .serial) n) (holds ks n))
 
 -- a later block of a held number changes nothing
 pub first-stays : (ks : List Kept) (k : Kept) (n : ℕ) → holds ks n ≡ true → heldData (ks ++ (k ∷ [])) n ≡ heldData ks n
 unfolding holds heldData
 first-stays [] k n e = never e refl
 first-stays (j ∷ ks) k n e =
-    either (eqb (j .number) n) (λ t. simp t) (λ t. simp t (first-stays ks k n (simp t at e)))
+    either (eqb (j .serial) n) (λ t. simp t) (λ t. simp t (first-stays ks k n (simp t at e)))
 
 -- a block of a number not yet held
-pub new-data : (ks : List Kept) (k : Kept) (n : ℕ) → holds ks n ≡ false → eqb (k .number) n ≡ true → heldData (ks ++ (k ∷ [])) n ≡ k .octets
+pub new-data : (ks : List Kept) (k : Kept) (n : ℕ) → holds ks n ≡ false → eqb (k .serial) n ≡ true → heldData (ks ++ (k ∷ [])) n ≡ k .octets
 unfolding holds heldData
 new-data [] k n e t = simp t
 new-data (j ∷ ks) k n e t =
-    either (eqb (j .number) n) (λ u. never refl (simp u at e)) (λ u. simp u (new-data ks k n (simp u at e) t))
+    either (eqb (j .serial) n) (λ u. never refl (simp u at e)) (λ u. simp u (new-data ks k n (simp u at e) t))
 
 pub whole-at : (t : Transaction) (ks : List Kept) → whole t ks ≡ true → (n : ℕ) → n < t .blocks → holds ks n ≡ true
 unfolding whole

@@ -15,11 +15,11 @@ use Rattle.history.proofs.Kept.{holds-more, first-stays, new-data}
 -- the first k blocks of the message m
 unfoldable pub keptTo : List ℕ → ℕ → List Kept
 keptTo m zero = []
-keptTo m (suc k) = keptTo m k ++ record { number = k; octets = blockData m k } ∷ []
+keptTo m (suc k) = keptTo m k ++ record { serial = k; octets = blockData m k } ∷ []
 
 module _ (m : List ℕ) where
   abbrev own : ℕ → Kept
-  own k = record { number = k; octets = blockData m k }
+  own k = record { serial = k; octets = blockData m k }
 
   pub none-from : (k n : ℕ) → k ≤ n → holds (keptTo m k) n ≡ false
   unfolding keptTo holds

@@ -27,7 +27,7 @@ use Rattle.transactions.specs.Answers.{message}
 use Rattle.transactions.specs.declared.header.Transaction.{Transaction}
 use Rattle.foundation.proofs.Tests.{either}
 use Rattle.receiver_state.specs.Receiver.{storeSize, held, allHeld, freshReceiver, freshFor}
-use Rattle.receiver.specs.Events.{Left, said, blockNumber, completed, taken, onHeader, onBlock}
+use Rattle.receiver.specs.Events.{BlockLeft, said, blockRefusal, completed, taken, onHeader, onBlock}
 use Rattle.receiver_state.specs.declared.Receiver.{Receiver}
 use Rattle.receiver_state.specs.declared.Fresh.{Fresh}
 use Rattle.receiver.specs.declared.event.Answer.{Answer}
@@ -109,7 +109,7 @@ taken-size rx store =
 handed-size : (rx : Receiver) (store b : List ℕ) → handedSize (sizeIn (rx .transaction)) (onBlock rx store b .step .answer) ≡ sizeIn (rx .transaction)
 unfolding onBlock
 handed-size rx store b =
-    either (eqb (blockNumber rx store b) 0)
+    either (eqb (blockRefusal rx store b) 0)
     (λ a. either (held rx (serialOf b)) (λ h. rw (a, h)) (λ h. rw (a, h) (taken-size _ _)))
     (λ a. rw a)
 
@@ -177,7 +177,7 @@ module _ (m : List ℕ) (n : ℕ) (rx : Receiver) (store : List ℕ) (a : Answer
   abbrev b : List ℕ
   b = writtenBlock n (blockData m n)
 
-  abbrev left : Left
+  abbrev left : BlockLeft
   left = onBlock rx store b
 
   f : Follows (d .destination) s (before m d n)

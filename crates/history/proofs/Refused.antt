@@ -4,7 +4,7 @@ use mathlib.Core.Path.{_≡_, refl, ap}
 use mathlib.Core.List.{List}
 use Prim.Native.Nat.{ℕ}
 use Rattle.transactions.specs.Answers.{refused}
-use Rattle.receiver.specs.Events.{Left, said, onHeader, onBlock}
+use Rattle.receiver.specs.Events.{BlockLeft, said, onHeader, onBlock}
 use Rattle.receiver.specs.declared.event.Answer.{Answer}
 use Rattle.receiver.specs.declared.event.Answer.the-variants.{Refused, Opened, Repeat, Stored, Bad, Message}
 use Rattle.receiver.specs.declared.event.Step.{Step}
@@ -28,7 +28,7 @@ refused-changes-nothing s (header h) n e =
     ap (λ (x : Step). record { receiver = x .receiver; store = s .store })
     (claims .header-refused (s .receiver) h n (said-refused (onHeader (s .receiver) h .answer) (s .store) n e))
 refused-changes-nothing s (block b) n e =
-    let x : Left = onBlock (s .receiver) (s .store) b in
-    ap (λ (x : Left). record { receiver = x .step .receiver; store = x .store })
+    let x : BlockLeft = onBlock (s .receiver) (s .store) b in
+    ap (λ (x : BlockLeft). record { receiver = x .step .receiver; store = x .store })
     (claims .block-refused (s .receiver) (s .store) b n (said-refused (x .step .answer) (x .store) n e))
 refused-changes-nothing s ended n e = refl

@@ -9,7 +9,7 @@ use Rattle.transactions.specs.Transactions.{transactionOf, isFull, heardNumber,
 use Rattle.foundation.specs.Order.{all}
 use Rattle.transactions.specs.Answers.{Said}
 use Rattle.foundation.proofs.Tests.{either}
-use Rattle.receiver.specs.Events.{said, headerNumber, openedBy, onHeader, onEnd}
+use Rattle.receiver.specs.Events.{said, headerRefusal, openedBy, onHeader, onEnd}
 use Rattle.history.specs.History.{header, ended, History, opens, afterHeader, headerSaid, after, saidTo}
 use Rattle.history.specs.Run.{State, afterEvent, answerTo}
 use Rattle.history.proofs.Sound.{Sound}
@@ -21,8 +21,8 @@ pub record Matches (own : RadioAddress) (s : State) (said : Said) (p : History) 
   pub same : said ≡ answer
 
 module _ (own : RadioAddress) (s : State) (p : History) (m : Follows own s p) where
-  number : (h : List ℕ) → headerNumber (s .receiver) h ≡ heardNumber own h
-  unfolding headerNumber
+  number : (h : List ℕ) → headerRefusal (s .receiver) h ≡ heardNumber own h
+  unfolding headerRefusal
   number h = rw (good own s p m, m .agrees .address)
 
   present : (h : List ℕ) → repeats (s .receiver .phase) (s .receiver .transaction) h ≡ repeats (p .phase) (p .transaction) h

@@ -19,9 +19,9 @@ pub data Event : Type 0 where
   block : List ℕ → Event
   ended : Event
 
--- a kept block: its number and its data octets
+-- a kept block: its serial and its data octets
 pub record Kept : Type 0 where
-  pub number : ℕ
+  pub serial : ℕ
   pub octets : List ℕ
 
 -- phase 0 no transaction, 1 open, 2 complete; the kept blocks, each behind those kept before
@@ -34,15 +34,15 @@ pub record History : Type 0 where
 unfoldable pub nothing : History
 nothing = record { phase = 0; transaction = record { source = record { 0 = 0 }; sap = 0; ns = 0; pad = 0; blocks = 0 }; kept = [] }
 
--- a number is held if a block with it is kept
+-- a serial is held if a block with it is kept
 unfoldable pub holds : List Kept → ℕ → Bool
 holds [] n = false
-holds (k ∷ ks) n = cond (eqb (k .number) n) true (holds ks n)
+holds (k ∷ ks) n = cond (eqb (k .serial) n) true (holds ks n)
 
 -- with the data octets of the first such block
 unfoldable pub heldData : List Kept → ℕ → List ℕ
 heldData [] n = []
-heldData (k ∷ ks) n = cond (eqb (k .number) n) (k .octets) (heldData ks n)
+heldData (k ∷ ks) n = cond (eqb (k .serial) n) (k .octets) (heldData ks n)
 
 -- ---- header
 
@@ -61,7 +61,7 @@ valid p b = all (eqb (length b) 12 ∷ blockGood b ∷ eqb (p .phase) 1 ∷ ltb 
 
 -- a valid block is kept behind those kept before
 unfoldable pub keeping : History → List ℕ → List Kept
-keeping p b = p .kept ++ (record { number = serialOf b; octets = dataOf b } ∷ [])
+keeping p b = p .kept ++ (record { serial = serialOf b; octets = dataOf b } ∷ [])
 
 -- every number below B is held: the octets by number, and their message check
 unfoldable pub whole : Transaction → List Kept → Bool

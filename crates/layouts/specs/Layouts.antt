@@ -92,10 +92,10 @@ unfoldable pub burstOctets : Burst → List ℕ
 burstOctets b = b .colour ∷ b .datatype ∷ b .info
 
 -- the 17 octets of the labels, colour code, data type, 12 of information
-unfoldable pub labelOctets : Labels → List ℕ
-labelOctets l =
+unfoldable pub labelLayout : Labels → List ℕ
+labelLayout l =
     l .sequence ∷ threeOctets (l .source .0) ++ threeOctets (l .target .0) ++ fourOctets (l .repeater .0)
     ++ l .timeslot ∷ l .call ∷ fourOctets (l .stream)
 
 unfoldable pub datagramOctets : Datagram → List ℕ
-datagramOctets d = labelOctets (d .labels) ++ d .colour ∷ d .datatype ∷ d .info
+datagramOctets d = labelLayout (d .labels) ++ d .colour ∷ d .datatype ∷ d .info

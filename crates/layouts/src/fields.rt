@@ -1,7 +1,7 @@
 // Fields, in the octets and numbers that callers in C have them in.
 ghost use mathlib.Core.Path.{_≡_};
 ghost use mathlib.Core.List.{[], _∷_, _++_};
-ghost use Rattle.layouts.specs.Layouts.{syncOf, replyOf, deliveryOf, fieldOctets, headerOctets, labelOctets};
+ghost use Rattle.layouts.specs.Layouts.{syncOf, replyOf, deliveryOf, fieldOctets, headerOctets, labelLayout};
 use addresses::RadioAddress;
 use bursts::burst::Sync;
 use datagrams::Labels;
@@ -48,7 +48,7 @@ pub fn delivery(sap: u8, ns: u8, destination: u32, source: u32) -> Delivery
 
 // The 17 octets of labels, and two behind them.
 pub fn label_octets(labels: Labels, colour: u8, datatype: u8) -> [u8; 19]
-    ensures { λ r. ⌜ r ≡ labelOctets labels ++ colour ∷ datatype ∷ [] ⌝ }
+    ensures { λ r. ⌜ r ≡ labelLayout labels ++ colour ∷ datatype ∷ [] ⌝ }
 {
     let s = addresses::radio_octets(labels.source);
     let t = addresses::radio_octets(labels.target);

@@ -18,7 +18,7 @@ use Rattle.receiver_state.specs.declared.Fresh.{Fresh}
 use Rattle.history.specs.History.{History, nothing, after}
 use Rattle.history.specs.Run.{event, restart, State}
 use Rattle.history.specs.Claims.{Octets, freshState}
-use Rattle.logs.specs.Log.{Record, act, none, recordsOf, Line, answer, restored, lineOf, afterRecord, linesFrom, lineSize, lineIn, report, stateOf, replayNumber, replayed, afterReplay}
+use Rattle.logs.specs.Log.{Record, act, none, recordsOf, Line, answer, restarted, lineOf, afterRecord, linesFrom, lineSize, lineIn, report, stateOf, replayNumber, replayed, afterReplay}
 use Rattle.logs.specs.Claims.{LogClaims}
 use Rattle.logs.specs.Parts.{Cuts}
 use Rattle.logs.specs.declared.replaying.Cut.{Cut}
@@ -53,7 +53,7 @@ record-step own s p m (act (event e)) o =
     let t = event-step own s p m e o in
     record { lines = λ rest. ap (λ x. answer x ∷ linesFrom own (after own p e) rest) (sym (t .same)); follows = t .follows }
 record-step own s p m (act (restart s0 s1 store)) o = record {
-  lines = λ rest. ap (λ (f : List ℕ). restored f ∷ linesFrom own p rest) (sym (form-is own s p m s0 s1));
+  lines = λ rest. ap (λ (f : List ℕ). restarted f ∷ linesFrom own p rest) (sym (form-is own s p m s0 s1));
   follows = restart-follows own s p m s0 s1 store o;
 }
 record-step own s p m none o = record { lines = λ rest. refl; follows = m }

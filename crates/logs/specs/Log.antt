@@ -62,12 +62,12 @@ actionsOf (none ∷ rest) = actionsOf rest
 -- an answer, or the stored form of a restart
 pub data Line : Type 0 where
   answer : Said → Line
-  restored : List ℕ → Line
+  restarted : List ℕ → Line
 
 -- what the receiver reports for a record, and what is left; a record that is no action is refused with 1 and changes nothing
 unfoldable pub lineOf : State → Record → Line
 lineOf s (act (event e)) = answer (answerTo s e)
-lineOf s (act (restart s0 s1 store)) = restored (savedForm s s0 s1)
+lineOf s (act (restart s0 s1 store)) = restarted (savedForm s s0 s1)
 lineOf s none = answer (refused 1)
 
 unfoldable pub afterRecord : State → Record → State
@@ -84,7 +84,7 @@ historyForm own p s0 s1 =
 unfoldable pub linesFrom : RadioAddress → History → List Record → List Line
 linesFrom own p [] = []
 linesFrom own p (act (event e) ∷ rest) = answer (saidTo own p e) ∷ linesFrom own (after own p e) rest
-linesFrom own p (act (restart s0 s1 store) ∷ rest) = restored (historyForm own p s0 s1) ∷ linesFrom own p rest
+linesFrom own p (act (restart s0 s1 store) ∷ rest) = restarted (historyForm own p s0 s1) ∷ linesFrom own p rest
 linesFrom own p (none ∷ rest) = answer (refused 1) ∷ linesFrom own p rest
 
 -- a line in octets: a code, the length of its contents (2 octets, most significant first), the contents, and zeros
@@ -99,7 +99,7 @@ codeOf (answer stored) = 3
 codeOf (answer bad) = 4
 codeOf (answer (message m)) = 5
 codeOf (answer (response h d)) = 6
-codeOf (restored form) = 7
+codeOf (restarted form) = 7
 
 unfoldable pub contentsOf : Line → List ℕ
 contentsOf (answer (refused n)) = n ∷ []
@@ -109,7 +109,7 @@ contentsOf (answer stored) = []
 contentsOf (answer bad) = []
 contentsOf (answer (message m)) = m
 contentsOf (answer (response h d)) = h ++ d
-contentsOf (restored form) = form
+contentsOf (restarted form) = form
 
 unfoldable pub lineOctets : ℕ → List ℕ → List ℕ
 lineOctets code os = (code ∷ length os / 256 ∷ length os % 256 ∷ []) ++ os ++ replicate (lineSize - 3 - length os) 0

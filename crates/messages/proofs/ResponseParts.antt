@@ -14,9 +14,9 @@ use Rattle.foundation.specs.Octets.{put}
 use Rattle.foundation.proofs.Copying.{put-all, put-both}
 use Rattle.checks.specs.Checks.{messageCheck, lowestFirst, headerGood, messageGood}
 use Rattle.packets.specs.Headers.{headerMask, part, formatOf, commonOf, headerOf, knownFormat, readHeader, writtenHeader, widthNumber, writeHeader}
-use Rattle.messages.specs.Responses.{replyCode, responseHeader, sackData, dataOf, writeResponse, isSack, refusedResponse, readResponse}
+use Rattle.messages.specs.Responses.{replyCode, responseHeader, sackData, responseData, writeResponse, isSack, refusedResponse, readResponse}
 use Rattle.messages.specs.ResponseClaims.{GoodHeader, Outcome, header-size, header-check, header-format, block-size, block-check, header-alone, header-and-block}
-use Rattle.messages.specs.Parts.{answerWith, answerBeside, answerTo, answerAfter}
+use Rattle.messages.specs.Parts.{answerWith, answerBeside, responseBy, answerAfter}
 use Rattle.packets.specs.declared.header.Common.{Common}
 use Rattle.packets.specs.declared.header.Header.{Header}
 use Rattle.packets.specs.declared.header.Header.the-variants.{Response, Unconfirmed, Confirmed}
@@ -67,7 +67,7 @@ module _ (r : Reply) (d : Delivery) (flags : List ℕ) (w : HeaderOctets) (e : w
   unfolding writeResponse
   write-refused n = rw (ne-eqb (widthNumber (responseHeader r d)) 0 (λ z. n (number-is ∙ z)))
 
-  pub write-done : (count : ℕ) (block : List ℕ) → w .number ≡ 0 → count ≡ replyCode r .2 → block ≡ dataOf r flags
+  pub write-done : (count : ℕ) (block : List ℕ) → w .number ≡ 0 → count ≡ replyCode r .2 → block ≡ responseData r flags
       → record { number = 0; header = w .octets; blocks = count; block = block } ≡ writeResponse r d flags
   unfolding writeResponse writeHeader
   write-done count block n c b =
@@ -101,14 +101,14 @@ module _ (h b : List ℕ) where
   by-header a e = ap (λ (x : HeaderAnswer). answerAfter x b) (sym e)
 
   -- a header of another format
-  other-format : formatOf h ≢ 1 → answerTo (headerOf h) b ≡ refusedResponse 9
-  unfolding headerOf answerTo
+  other-format : formatOf h ≢ 1 → responseBy (headerOf h) b ≡ refusedResponse 9
+  unfolding headerOf responseBy
   other-format n = rw (ne-eqb (formatOf h) 1 n) (go (eqb (formatOf h) 2))
     where
       last : ℕ
       last = getD h 9 0
 
-      go : (t : Bool) → answerTo (cond t (Unconfirmed (commonOf h) (part 0 4 last)) (Confirmed (commonOf h) (part 7 1 last) (part 4 3 last) (part 0 4 last))) b ≡ refusedResponse 9
+      go : (t : Bool) → responseBy (cond t (Unconfirmed (commonOf h) (part 0 4 last)) (Confirmed (commonOf h) (part 7 1 last) (part 4 3 last) (part 0 4 last))) b ≡ refusedResponse 9
       go true = refl
       go false = refl
 
@@ -119,10 +119,10 @@ module _ (h b : List ℕ) where
 
   -- the header of a response
   after-good : GoodHeader h → answerAfter (readHeader h) b ≡ answerBeside (commonOf h) (part 6 2 (getD h 9 0)) (part 3 3 (getD h 9 0)) (part 0 3 (getD h 9 0)) b
-  unfolding answerAfter answerTo
+  unfolding answerAfter responseBy
   after-good g =
       by-header (Accepted (headerOf h)) (accepted h (g .size) (g .check) (known-format (formatOf h) (omega (arith, g .format)) (omega (arith, g .format))))
-      ∙ ap (λ (x : Header). answerTo x b) (sym (format-1 h (commonOf h) refl _ _ _ (g .format) refl refl refl))
+      ∙ ap (λ (x : Header). responseBy x b) (sym (format-1 h (commonOf h) refl _ _ _ (g .format) refl refl refl))
 
   sack-class : isSack h ≡ true → part 6 2 (getD h 9 0) ≡ 2
   unfolding isSack

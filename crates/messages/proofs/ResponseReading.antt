@@ -17,7 +17,7 @@ use Rattle.checks.proofs.MessageChecks.{message-carried}
 use Rattle.packets.specs.Headers.{headerMask, part, formatOf, commonOf, writtenHeader, widthNumber}
 use Rattle.packets.specs.Parts.{commonFields}
 use Rattle.messages.specs.MessageClaims.{Within}
-use Rattle.messages.specs.Responses.{replyCode, responseHeader, sackData, dataOf, writeResponse, isSack, responseNumber, refusedResponse, readResponse}
+use Rattle.messages.specs.Responses.{replyCode, responseHeader, sackData, responseData, writeResponse, isSack, responseNumber, refusedResponse, readResponse}
 use Rattle.messages.specs.ResponseClaims.{flagsOf, answerOf, ResponseReadsBack, GoodHeader, Outcome, header-size, header-check, header-format, block-size, block-check, header-alone, header-and-block}
 use Rattle.messages.specs.Parts.{answerWith}
 use Rattle.messages.specs.declared.message.Delivery.{Delivery}
@@ -142,7 +142,7 @@ module _ (r : Reply) (d : Delivery) (w : Within d) where
       }) (reply-small r .0, reply-small r .1, w .ns)
 
   pub response-written : (flags : List ℕ)
-      → writeResponse r d flags ≡ record { number = 0; header = writtenHeader (responseHeader r d); blocks = replyCode r .2; block = dataOf r flags }
+      → writeResponse r d flags ≡ record { number = 0; header = writtenHeader (responseHeader r d); blocks = replyCode r .2; block = responseData r flags }
   unfolding writeResponse
   response-written flags = rw response-fits
 
@@ -206,7 +206,7 @@ module _ (d : Delivery) (flags : List ℕ) (w : Within d) where
   nack-back b = rw (response-written Nack d w flags) (alone-read Nack d w (λ e. omega arith) flags b refl)
 
   pub sack-back : length flags ≡ 8 → readResponse (writeResponse Sack d flags .header) (writeResponse Sack d flags .block) ≡ answerOf Sack d flags
-  unfolding replyCode flagsOf dataOf sackData
+  unfolding replyCode flagsOf responseData sackData
   sack-back n =
       rw (response-written Sack d w flags)
       (fields-read Sack d w flags (sackData flags)

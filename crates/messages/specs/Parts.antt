@@ -65,12 +65,12 @@ answerBeside c class kind status b =
     (answerWith c class kind status (replicate 8 0))
 
 -- by the header and the data block
-unfoldable pub answerTo : Header → List ℕ → ResponseAnswer
-answerTo (Response c class kind status) b = answerBeside c class kind status b
-answerTo (Unconfirmed c fsn) b = refusedResponse 9
-answerTo (Confirmed c s ns fsn) b = refusedResponse 9
+unfoldable pub responseBy : Header → List ℕ → ResponseAnswer
+responseBy (Response c class kind status) b = answerBeside c class kind status b
+responseBy (Unconfirmed c fsn) b = refusedResponse 9
+responseBy (Confirmed c s ns fsn) b = refusedResponse 9
 
 -- by what is read of the header
 unfoldable pub answerAfter : HeaderAnswer → List ℕ → ResponseAnswer
-answerAfter (Accepted h) b = answerTo h b
+answerAfter (Accepted h) b = responseBy h b
 answerAfter (Refused n) b = refusedResponse n

@@ -34,14 +34,14 @@ unfoldable pub sackData : List ℕ → List ℕ
 sackData flags = flags ++ lowestFirst (messageCheck flags)
 
 -- the data block of a reply; zeros where its count is 0
-unfoldable pub dataOf : Reply → List ℕ → List ℕ
-dataOf r flags = cond (eqb (replyCode r .2) 0) (replicate 12 0) (sackData flags)
+unfoldable pub responseData : Reply → List ℕ → List ℕ
+responseData r flags = cond (eqb (replyCode r .2) 0) (replicate 12 0) (sackData flags)
 
 -- what the writer answers: the header, how many data blocks follow, and the data block; zeros beside the number of a refusal
 unfoldable pub writeResponse : Reply → Delivery → List ℕ → ResponseOctets
 writeResponse r d flags =
     cond (eqb (widthNumber (responseHeader r d)) 0)
-    (record { number = 0; header = writtenHeader (responseHeader r d); blocks = replyCode r .2; block = dataOf r flags })
+    (record { number = 0; header = writtenHeader (responseHeader r d); blocks = replyCode r .2; block = responseData r flags })
     (record { number = 16; header = replicate 12 0; blocks = 0; block = replicate 12 0 })
 
 -- ---- reading

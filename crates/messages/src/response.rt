@@ -1,9 +1,9 @@
 // Responses to an attempt.
 ghost use mathlib.Core.Path.{_≡_};
 ghost use lib.ListN.{length, take};
-ghost use Rattle.messages.specs.Responses.{replyCode, responseHeader, sackData, dataOf, writeResponse, refusedResponse, readResponse};
+ghost use Rattle.messages.specs.Responses.{replyCode, responseHeader, sackData, responseData, writeResponse, refusedResponse, readResponse};
 ghost use Rattle.messages.specs.ResponseClaims.{ResponseReadsBack};
-ghost use Rattle.messages.specs.Parts.{answerWith, answerBeside, answerTo};
+ghost use Rattle.messages.specs.Parts.{answerWith, answerBeside, responseBy};
 use crate::message::Delivery;
 use addresses::RadioAddress;
 use packets::header::Common;
@@ -89,7 +89,7 @@ fn sack_data(flags: [u8; 8]) -> [u8; 12]
 
 // The data block, or zeros.
 fn data_of(reply: Reply, flags: [u8; 8]) -> [u8; 12]
-    ensures { λ r. ⌜ r ≡ dataOf reply flags ⌝ }
+    ensures { λ r. ⌜ r ≡ responseData reply flags ⌝ }
 {
     match reply {
         Reply::Ack => [0u8; 12],
@@ -183,7 +183,7 @@ fn answer_beside(c: Common, class: u8, kind: u8, status: u8, block: &[u8]) -> Re
 
 // The answer by a header that is read.
 fn answer_to(h: Header, block: &[u8]) -> ResponseAnswer
-    ensures { λ r. ⌜ r ≡ answerTo h (now (block .entry)) ⌝ }
+    ensures { λ r. ⌜ r ≡ responseBy h (now (block .entry)) ⌝ }
 {
     match h {
         Header::Response(c, class, kind, status) => answer_beside(c, class, kind, status, block),

@@ -8,10 +8,10 @@ use native.Mathlib.Omega.{arith}
 use native.Mathlib.Numerals.{add-one}
 use lib.Pow.{pow-pos, pow-add, shl-lt}
 use lib.Bits.{bitXor, xor-self, xor-zero-r}
-use Rattle.foundation.specs.Bits.{Bits, digits, zeros, followed, number}
+use Rattle.foundation.specs.Bits.{Bits, digits, zeros, followed, valueOf}
 use Rattle.polynomials.specs.Remainder.{reduce, divide, remainder, check, coded}
 use Rattle.foundation.proofs.Xor.{xor-shl}
-use Rattle.foundation.proofs.Runs.{zeros-bits, digits-bits, followed-bits, followed-first, followed-rest, number-from, number-lt, number-one, number-whole}
+use Rattle.foundation.proofs.Runs.{zeros-bits, digits-bits, followed-bits, followed-first, followed-rest, value-from, value-lt, value-one, value-whole}
 use Rattle.polynomials.proofs.Division.{divide-append, divide-ext, divide-followed, divide-lt, divide-split, divide-xor, divide-zero, reduce-scale, remainder-short, times-small}
 
 module _ (n g : ℕ) where
@@ -57,7 +57,7 @@ module _ (n g : ℕ) where
       let c : ℕ = check n g u k in
       divide-followed n g 0 u (digits n c) k n
       ∙ divide-split n g (remainder n g u k) (digits n c) n
-      ∙ ap₂ bitXor (sym (check-is u k)) (remainder-short n g (digits n c) (digits-bits n c) n (omega arith) ∙ number-whole n c (check-lt hg u b k))
+      ∙ ap₂ bitXor (sym (check-is u k)) (remainder-short n g (digits n c) (digits-bits n c) n (omega arith) ∙ value-whole n c (check-lt hg u b k))
       ∙ xor-self c
 
   -- x^i and then x^j
@@ -65,13 +65,13 @@ module _ (n g : ℕ) where
   times-times r i j = sym (divide-append n g r zeros i j)
 
   -- the register takes in w bits at once: they are added at its top, and then it is shifted w times
-  pub check-more : (u : ℕ → ℕ) → Bits u → (k w : ℕ) → w ≤ n → check n g u (k + w) ≡ divide n g (bitXor (check n g u k) (number u k w * 2 ^ (n - w))) zeros w
+  pub check-more : (u : ℕ → ℕ) → Bits u → (k w : ℕ) → w ≤ n → check n g u (k + w) ≡ divide n g (bitXor (check n g u k) (valueOf u k w * 2 ^ (n - w))) zeros w
   check-more u b k w l =
       let r : ℕ = remainder n g u k in
-      let o : ℕ = number u k w in
+      let o : ℕ = valueOf u k w in
       check-is u (k + w)
       ∙ ap (λ (t : ℕ). divide n g t zeros n) (divide-append n g 0 u k w ∙ divide-split n g r (λ p. u (k + p)) w
-      ∙ ap (bitXor (divide n g r zeros w)) (remainder-short n g (λ p. u (k + p)) (λ p. b (k + p)) w l ∙ number-from u k w))
+      ∙ ap (bitXor (divide n g r zeros w)) (remainder-short n g (λ p. u (k + p)) (λ p. b (k + p)) w l ∙ value-from u k w))
       ∙ divide-xor n g (divide n g r zeros w) o zeros zeros n
       ∙ ap₂ bitXor (times-times r w n ∙ ap (divide n g r zeros) (swap w n) ∙ sym (times-times r n w) ∙ ap (λ (t : ℕ). divide n g t zeros w) (sym (check-is u k)))
       (ap (divide n g o zeros) whole ∙ sym (times-times o (n - w) w) ∙ ap (λ (t : ℕ). divide n g t zeros w) (times-small n g o (n - w) fits))
@@ -86,16 +86,16 @@ module _ (n g : ℕ) where
       sum : w + (n - w) ≡ n
       sum = omega arith
 
-      fits : number u k w * 2 ^ (n - w) < 2 ^ n
-      fits = subst (λ (j : ℕ). number u k w * 2 ^ (n - w) < 2 ^ j) sum (shl-lt w (n - w) (number-lt u b k w))
+      fits : valueOf u k w * 2 ^ (n - w) < 2 ^ n
+      fits = subst (λ (j : ℕ). valueOf u k w * 2 ^ (n - w) < 2 ^ j) sum (shl-lt w (n - w) (value-lt u b k w))
 
 -- the check so far with one bit more
 check-snoc : (m g : ℕ) (u : ℕ → ℕ) → Bits u → (k : ℕ) → check (suc m) g u (suc k) ≡ reduce (suc m) g (bitXor (check (suc m) g u k) (u k * 2 ^ m) * 2)
 unfolding divide
 check-snoc m g u b k =
     ap (check (suc m) g u) (sym (add-one k)) ∙ check-more (suc m) g u b k 1 (omega arith)
-    ∙ ap (reduce (suc m) g) (xor-zero-r (bitXor (check (suc m) g u k) (number u k 1 * 2 ^ (suc m - 1)) * 2))
-    ∙ ap₂ (λ (x y : ℕ). reduce (suc m) g (bitXor (check (suc m) g u k) (x * 2 ^ y) * 2)) (number-one u k) low
+    ∙ ap (reduce (suc m) g) (xor-zero-r (bitXor (check (suc m) g u k) (valueOf u k 1 * 2 ^ (suc m - 1)) * 2))
+    ∙ ap₂ (λ (x y : ℕ). reduce (suc m) g (bitXor (check (suc m) g u k) (x * 2 ^ y) * 2)) (value-one u k) low
   where
     low : suc m - 1 ≡ m
     low = omega arith

@@ -7,10 +7,10 @@ use native.Mathlib.Nat.{zero-mul, one-mul, zero-div, zero-add, add-zero, add-suc
 use native.Mathlib.Omega.{arith}
 use lib.Pow.{pow-pos, pow-mono, shl-shr, shr-shr}
 use lib.Bits.{bitXor, xor-shr, xor-zero-r, xor-lt, xor-shifted}
-use Rattle.foundation.specs.Bits.{Bits, bit, zeros, followed, number}
+use Rattle.foundation.specs.Bits.{Bits, bit, zeros, followed, valueOf}
 use Rattle.polynomials.specs.Remainder.{reduce, divide, remainder}
 use Rattle.foundation.proofs.Xor.{bit-ind, bit-xor, scale-xor, xor-swap, xor-shl}
-use Rattle.foundation.proofs.Runs.{followed-first, followed-behind, number-lt}
+use Rattle.foundation.proofs.Runs.{followed-first, followed-behind, value-lt}
 
 module _ (n g : ℕ) where
   pub reduce-xor : (a b : ℕ) → reduce n g (bitXor a b) ≡ bitXor (reduce n g a) (reduce n g b)
@@ -76,13 +76,13 @@ module _ (n g : ℕ) where
       ∙ ap (reduce n g) (xor-zero-r (r * 2 ^ k * 2)) ∙ ap (reduce n g) (sym same) ∙ reduce-small (r * 2 ^ suc k) h
 
   -- the remainder of at most n bits is the number they make
-  pub remainder-short : (u : ℕ → ℕ) → Bits u → (k : ℕ) → k ≤ n → remainder n g u k ≡ number u 0 k
-  unfolding divide number
+  pub remainder-short : (u : ℕ → ℕ) → Bits u → (k : ℕ) → k ≤ n → remainder n g u k ≡ valueOf u 0 k
+  unfolding divide valueOf
   remainder-short u h zero l = refl
   remainder-short u h (suc k) l =
       ap (λ (t : ℕ). reduce n g (bitXor (t * 2) (u k))) (remainder-short u h k (omega arith))
-      ∙ ap (reduce n g) (xor-shifted (number u 0 k) 1 (u k) (h k) ∙ ap (λ (p : ℕ). number u 0 k * 2 + u p) (sym (zero-add k)))
-      ∙ reduce-small (number u 0 (suc k)) (lt-of-lt-of-le (number-lt u h 0 (suc k)) (pow-mono l))
+      ∙ ap (reduce n g) (xor-shifted (valueOf u 0 k) 1 (u k) (h k) ∙ ap (λ (p : ℕ). valueOf u 0 k * 2 + u p) (sym (zero-add k)))
+      ∙ reduce-small (valueOf u 0 (suc k)) (lt-of-lt-of-le (value-lt u h 0 (suc k)) (pow-mono l))
 
   -- g has degree n: the remainder has n coefficients
   module _ (hg : g / 2 ^ n ≡ 1) where

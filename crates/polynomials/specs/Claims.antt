@@ -3,7 +3,7 @@
 use mathlib.Core.Path.{_≡_}
 use Prim.Native.Nat.{ℕ, _+_, _*_, _-_, _/_, _^_, _≤_}
 use lib.Bits.{bitXor}
-use Rattle.foundation.specs.Bits.{Bits, zeros, followed, number}
+use Rattle.foundation.specs.Bits.{Bits, zeros, followed, valueOf}
 use Rattle.polynomials.specs.Remainder.{divide, remainder, check, coded}
 
 pub record RemainderClaims (n g : ℕ) : Type 0 where
@@ -14,4 +14,4 @@ pub record RemainderClaims (n g : ℕ) : Type 0 where
   -- data followed by its check has remainder 0
   pub codeword : g / 2 ^ n ≡ 1 → (u : ℕ → ℕ) → Bits u → (k : ℕ) → remainder n g (coded n g k u) (k + n) ≡ 0
   -- the register: w bits more are added at the top of the check so far, which is then multiplied by x^w
-  pub register : (u : ℕ → ℕ) → Bits u → (k w : ℕ) → w ≤ n → check n g u (k + w) ≡ divide n g (bitXor (check n g u k) (number u k w * 2 ^ (n - w))) zeros w
+  pub register : (u : ℕ → ℕ) → Bits u → (k w : ℕ) → w ≤ n → check n g u (k + w) ≡ divide n g (bitXor (check n g u k) (valueOf u k w * 2 ^ (n - w))) zeros w

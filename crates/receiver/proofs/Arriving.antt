@@ -13,45 +13,45 @@ use Rattle.transactions.specs.declared.header.Transaction.{Transaction}
 use Rattle.transactions.specs.declared.header.Heard.the-variants as heard
 use Rattle.foundation.proofs.Tests.{either}
 use Rattle.receiver_state.specs.Receiver.{noFlags, receiverGood}
-use Rattle.receiver.specs.Events.{answered, headerNumber, openedBy, onHeader, onEnd}
-use Rattle.receiver.specs.Parts.{heardBy}
+use Rattle.receiver.specs.Events.{answered, headerRefusal, openedBy, onHeader, onEnd}
+use Rattle.receiver.specs.Parts.{onHeard}
 use Rattle.receiver_state.specs.declared.Receiver.{Receiver}
 use Rattle.receiver.specs.declared.event.Answer.the-variants.{Refused, Opened, Repeat}
 
 -- ---- headers
 
 module _ (rx : Receiver) (t : Transaction) (full same : Bool) (is : same ≡ cond (eqb (rx .phase) 0) false (belongs (rx .transaction) t full)) where
-  pub by-repeat : same ≡ true → answered rx Repeat ≡ heardBy rx t full
-  unfolding heardBy
+  pub by-repeat : same ≡ true → answered rx Repeat ≡ onHeard rx t full
+  unfolding onHeard
   by-repeat s = rw (← is, s)
 
   module _ (other : same ≡ false) where
-    pub by-short : full ≡ false → answered rx (Refused 12) ≡ heardBy rx t full
-    unfolding heardBy
+    pub by-short : full ≡ false → answered rx (Refused 12) ≡ onHeard rx t full
+    unfolding onHeard
     by-short f = rw (← is, other, f)
 
-    pub by-opened : full ≡ true → answered (record { own = rx .own; phase = 1; transaction = t; flags = noFlags }) Opened ≡ heardBy rx t full
-    unfolding heardBy
+    pub by-opened : full ≡ true → answered (record { own = rx .own; phase = 1; transaction = t; flags = noFlags }) Opened ≡ onHeard rx t full
+    unfolding onHeard
     by-opened f = rw (← is, other, f)
 
 module _ (rx : Receiver) (h : List ℕ) where
   pub header-not-good : receiverGood rx ≡ false → answered rx (Refused 1) ≡ onHeader rx h
-  unfolding onHeader headerNumber
+  unfolding onHeader headerRefusal
   header-not-good b = rw b
 
   module _ (good : receiverGood rx ≡ true) where
-    number : headerNumber rx h ≡ heardNumber (rx .own) h
-    unfolding headerNumber
+    number : headerRefusal rx h ≡ heardNumber (rx .own) h
+    unfolding headerRefusal
     number = rw good
 
-    pub header-heard : (t : Transaction) (full : Bool) → heard.Accepted t full ≡ heardOf (rx .own) h → heardBy rx t full ≡ onHeader rx h
+    pub header-heard : (t : Transaction) (full : Bool) → heard.Accepted t full ≡ heardOf (rx .own) h → onHeard rx t full ≡ onHeader rx h
     unfolding heardOf
     header-heard t full e =
         either (eqb (heardNumber (rx .own) h) 0)
         (λ z. let e′ : heard.Accepted t full ≡ heard.Accepted (transactionOf h) (isFull h) = e ∙ rw z in
         let same : t ≡ transactionOf h = cc in
         let whole : full ≡ isFull h = cc in
-        ap₂ (heardBy rx) same whole ∙ unfold heardBy onHeader openedBy repeats in rw (number, z))
+        ap₂ (onHeard rx) same whole ∙ unfold onHeard onHeader openedBy repeats in rw (number, z))
         (λ z. let e′ : heard.Accepted t full ≡ heard.Refused (heardNumber (rx .own) h) = e ∙ rw z in
         let o : _≡_ {A = ℕ} 0 1 = cc in absurd (omega arith))
 

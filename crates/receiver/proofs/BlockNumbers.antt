@@ -18,7 +18,7 @@ use Rattle.transactions.proofs.Order.{block-run}
 use Rattle.foundation.proofs.Order.{all-at, passed, run-fails}
 use Rattle.receiver_state.specs.declared.Receiver.{Receiver}
 use Rattle.receiver_state.specs.Receiver.{blockAt, storeSize, held, transactionGood, receiverGood}
-use Rattle.receiver.specs.Events.{blockNumber}
+use Rattle.receiver.specs.Events.{blockRefusal}
 use Rattle.receiver.specs.Parts.{numberWith}
 use Rattle.receiver.proofs.Taking.{good-blocks}
 
@@ -129,14 +129,14 @@ module _ (b : List ℕ) where
       either (eqb (readNumber b) 0) (λ t. read-good (eqb-true (readNumber b) 0 t))
       (λ t. absurd (eqb-false (readNumber b) 0 t (sym (ap (λ (x : Block). x .number) (read-bad t)) ∙ e)))
 
-  pub read-number : (rx : Receiver) (store : List ℕ) → numberWith rx store (readBlock b) ≡ blockNumber rx store b
-  unfolding numberWith blockNumber takenNumber takenTests
+  pub read-number : (rx : Receiver) (store : List ℕ) → numberWith rx store (readBlock b) ≡ blockRefusal rx store b
+  unfolding numberWith blockRefusal takenNumber takenTests
   read-number rx store = either (eqb (readNumber b) 0) good bad
     where
-      good : eqb (readNumber b) 0 ≡ true → numberWith rx store (readBlock b) ≡ blockNumber rx store b
+      good : eqb (readNumber b) 0 ≡ true → numberWith rx store (readBlock b) ≡ blockRefusal rx store b
       good t = let z : readNumber b ≡ 0 = eqb-true (readNumber b) 0 t in rw (read-good z, block-run _ b (tests-number ∙ z))
 
-      bad : eqb (readNumber b) 0 ≡ false → numberWith rx store (readBlock b) ≡ blockNumber rx store b
+      bad : eqb (readNumber b) 0 ≡ false → numberWith rx store (readBlock b) ≡ blockRefusal rx store b
       bad t =
           let n : readNumber b ≢ 0 = eqb-false (readNumber b) 0 t in
           rw (read-bad t, t, run-fails _ (blockTests b) (λ e. n (sym tests-number ∙ e)), tests-number)

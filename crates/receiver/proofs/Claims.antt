@@ -16,7 +16,7 @@ use Rattle.receiver.specs.declared.event.Answer.{Answer}
 use Rattle.receiver.specs.declared.event.Answer.the-variants.{Refused, Opened, Repeat, Stored, Bad, Message}
 use Rattle.receiver.specs.declared.event.Step.{Step}
 use Rattle.receiver_state.specs.Receiver.{noFlags, held, allHeld}
-use Rattle.receiver.specs.Events.{answered, changed, headerNumber, openedBy, onHeader, putBlock, Left, blockNumber, completed, taken, onBlock}
+use Rattle.receiver.specs.Events.{answered, changed, headerRefusal, openedBy, onHeader, putBlock, BlockLeft, blockRefusal, completed, taken, onBlock}
 use Rattle.receiver.specs.Claims.{HeaderRefused, BlockRefused, ReceiverClaims}
 
 -- two answers that differ
@@ -27,10 +27,10 @@ apart e = absurd (omega arith)
 
 header-refused : (rx : Receiver) (h : List ℕ) → HeaderRefused rx h
 unfolding onHeader
-header-refused rx h n e = go (eqb (headerNumber rx h) 0) (repeats (rx .phase) (rx .transaction) h) (isFull h) e
+header-refused rx h n e = go (eqb (headerRefusal rx h) 0) (repeats (rx .phase) (rx .transaction) h) (isFull h) e
   where
     by : Bool → Bool → Bool → Step
-    by a b c = cond a (cond b (answered rx Repeat) (cond c (answered (openedBy rx h) Opened) (answered rx (Refused 12)))) (answered rx (Refused (headerNumber rx h)))
+    by a b c = cond a (cond b (answered rx Repeat) (cond c (answered (openedBy rx h) Opened) (answered rx (Refused 12)))) (answered rx (Refused (headerRefusal rx h)))
 
     go : (a b c : Bool) → by a b c .answer ≡ Refused n → by a b c ≡ answered rx (Refused n)
     go true true c e = apart (cc)
@@ -56,7 +56,7 @@ never-refused rx store n e = go (allHeld rx) (messageGood (take (blockSize * rx 
 
 block-refused : (rx : Receiver) (store b : List ℕ) → BlockRefused rx store b
 unfolding onBlock
-block-refused rx store b n e = go (eqb (blockNumber rx store b) 0) (held rx (serialOf b)) e
+block-refused rx store b n e = go (eqb (blockRefusal rx store b) 0) (held rx (serialOf b)) e
   where
     next : List ℕ
     next = putBlock store (serialOf b) (dataOf b)
@@ -64,11 +64,11 @@ block-refused rx store b n e = go (eqb (blockNumber rx store b) 0) (held rx (ser
     with : Receiver
     with = changed rx 1 (withFlag (rx .flags) (serialOf b))
 
-    kept : Answer → Left
+    kept : Answer → BlockLeft
     kept a = record { step = answered rx a; store = store }
 
-    by : Bool → Bool → Left
-    by a h = cond a (cond h (kept Repeat) (record { step = taken with next; store = next })) (kept (Refused (blockNumber rx store b)))
+    by : Bool → Bool → BlockLeft
+    by a h = cond a (cond h (kept Repeat) (record { step = taken with next; store = next })) (kept (Refused (blockRefusal rx store b)))
 
     go : (a h : Bool) → by a h .step .answer ≡ Refused n → by a h ≡ kept (Refused n)
     go true true e = apart (cc)

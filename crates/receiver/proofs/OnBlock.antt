@@ -12,15 +12,15 @@ use Rattle.transactions.specs.Transactions.{serialOf, dataOf}
 use Rattle.transactions.specs.Flags.{flagged, withFlag}
 use Rattle.receiver_state.specs.declared.Receiver.{Receiver}
 use Rattle.receiver.specs.declared.event.Answer.the-variants.{Refused, Repeat}
-use Rattle.receiver.specs.Events.{Left, answered, changed, putBlock, blockNumber, taken, onBlock}
+use Rattle.receiver.specs.Events.{BlockLeft, answered, changed, putBlock, blockRefusal, taken, onBlock}
 use Rattle.receiver.specs.Parts.{numberWith}
 use Rattle.receiver.proofs.BlockNumbers.{taken-of, read-fields, read-number}
 
 module _ (rx : Receiver) (store b : List ℕ) (x : Block) (is : x ≡ readBlock b) (n : ℕ) (number : n ≡ numberWith rx store x) where
-  same-number : blockNumber rx store b ≡ n
+  same-number : blockRefusal rx store b ≡ n
   same-number = sym (number ∙ ap (numberWith rx store) is ∙ read-number b rx store)
 
-  pub left-refused : n ≢ 0 → _≡_ {A = Left} (record { step = answered rx (Refused n); store = store }) (onBlock rx store b)
+  pub left-refused : n ≢ 0 → _≡_ {A = BlockLeft} (record { step = answered rx (Refused n); store = store }) (onBlock rx store b)
   unfolding onBlock
   left-refused z = rw (same-number, ne-eqb n 0 z)
 
@@ -34,7 +34,7 @@ module _ (rx : Receiver) (store b : List ℕ) (x : Block) (is : x ≡ readBlock 
     data-is : dataOf b ≡ x .octets
     data-is = sym (ap (λ (y : Block). y .octets) fields)
 
-    pub left-repeat : flagged (rx .flags) (x .serial) ≡ true → _≡_ {A = Left} (record { step = answered rx Repeat; store = store }) (onBlock rx store b)
+    pub left-repeat : flagged (rx .flags) (x .serial) ≡ true → _≡_ {A = BlockLeft} (record { step = answered rx Repeat; store = store }) (onBlock rx store b)
     unfolding onBlock
     left-repeat h = rw (same-number, eq-eqb n 0 none, serial-is, h)
 
@@ -42,6 +42,6 @@ module _ (rx : Receiver) (store b : List ℕ) (x : Block) (is : x ≡ readBlock 
     next = putBlock store (x .serial) (x .octets)
 
     pub left-new : flagged (rx .flags) (x .serial) ≡ false
-        → _≡_ {A = Left} (record { step = taken (changed rx 1 (withFlag (rx .flags) (x .serial))) next; store = next }) (onBlock rx store b)
+        → _≡_ {A = BlockLeft} (record { step = taken (changed rx 1 (withFlag (rx .flags) (x .serial))) next; store = next }) (onBlock rx store b)
     unfolding onBlock
     left-new h = rw (same-number, eq-eqb n 0 none, serial-is, data-is, h)

@@ -35,8 +35,8 @@ changed rx phase flags = record { own = rx .own; phase = phase; transaction = rx
 
 -- ---- a header
 
-unfoldable pub headerNumber : Receiver → List ℕ → ℕ
-headerNumber rx h = cond (receiverGood rx) (heardNumber (rx .own) h) 1
+unfoldable pub headerRefusal : Receiver → List ℕ → ℕ
+headerRefusal rx h = cond (receiverGood rx) (heardNumber (rx .own) h) 1
 
 -- a new transaction with nothing held
 unfoldable pub openedBy : Receiver → List ℕ → Receiver
@@ -44,10 +44,10 @@ openedBy rx h = record { own = rx .own; phase = 1; transaction = transactionOf h
 
 unfoldable pub onHeader : Receiver → List ℕ → Step
 onHeader rx h =
-    cond (eqb (headerNumber rx h) 0)
+    cond (eqb (headerRefusal rx h) 0)
     (cond (repeats (rx .phase) (rx .transaction) h) (answered rx Repeat)
     (cond (isFull h) (answered (openedBy rx h) Opened) (answered rx (Refused 12))))
-    (answered rx (Refused (headerNumber rx h)))
+    (answered rx (Refused (headerRefusal rx h)))
 
 -- ---- a block
 
@@ -56,12 +56,12 @@ unfoldable pub putBlock : List ℕ → ℕ → List ℕ → List ℕ
 putBlock store n os = take (blockSize * n) store ++ os ++ drop (blockSize * n + blockSize) store
 
 -- a step and the store after it
-pub record Left : Type 0 where
+pub record BlockLeft : Type 0 where
   pub step : Step
   pub store : List ℕ
 
-unfoldable pub blockNumber : Receiver → List ℕ → List ℕ → ℕ
-blockNumber rx store b =
+unfoldable pub blockRefusal : Receiver → List ℕ → List ℕ → ℕ
+blockRefusal rx store b =
     cond (receiverGood rx)
     (cond (eqb (length store) storeSize)
     (takenNumber (rx .phase) (rx .transaction) (held rx (serialOf b)) (blockAt store (serialOf b)) b) 1) 1
@@ -77,13 +77,13 @@ completed rx store =
 unfoldable pub taken : Receiver → List ℕ → Step
 taken rx store = cond (allHeld rx) (completed rx store) (answered rx Stored)
 
-unfoldable pub onBlock : Receiver → List ℕ → List ℕ → Left
+unfoldable pub onBlock : Receiver → List ℕ → List ℕ → BlockLeft
 onBlock rx store b =
-    cond (eqb (blockNumber rx store b) 0)
+    cond (eqb (blockRefusal rx store b) 0)
     (cond (held rx (serialOf b)) (record { step = answered rx Repeat; store = store })
     (let next = putBlock store (serialOf b) (dataOf b) in
     record { step = taken (changed rx 1 (withFlag (rx .flags) (serialOf b))) next; store = next }))
-    (record { step = answered rx (Refused (blockNumber rx store b)); store = store })
+    (record { step = answered rx (Refused (blockRefusal rx store b)); store = store })
 
 -- ---- an end of attempt
 

@@ -16,8 +16,8 @@ use Rattle.receiver_state.specs.Receiver.{blockAt, storeSize, noFlags, held, re
 use Rattle.receiver.specs.Events.{answered}
 
 -- a header that is for this receiver
-unfoldable pub heardBy : Receiver → Transaction → Bool → Step
-heardBy rx t full =
+unfoldable pub onHeard : Receiver → Transaction → Bool → Step
+onHeard rx t full =
     cond (cond (eqb (rx .phase) 0) false (belongs (rx .transaction) t full)) (answered rx Repeat)
     (cond full (answered (record { own = rx .own; phase = 1; transaction = t; flags = noFlags }) Opened) (answered rx (Refused 12)))
 

@@ -10,7 +10,7 @@ ghost use Rattle.receiver_state.specs.Receiver.{blockAt, storeSize, transaction
 ghost use Rattle.receiver.specs.Events.{answered, onHeader, putBlock, taken, onBlock, onEnd};
 ghost use Rattle.receiver.specs.declared.event.Answer.the-variants.{Refused};
 ghost use Rattle.receiver.specs.Claims.{HeaderRefused, BlockRefused};
-ghost use Rattle.receiver.specs.Parts.{heardBy, numberWith};
+ghost use Rattle.receiver.specs.Parts.{onHeard, numberWith};
 use messages::message::BLOCK;
 use messages::message::CHECK;
 use messages::response::ResponseOctets;
@@ -60,7 +60,7 @@ fn is_repeat(rx: Receiver, t: Transaction, full: bool) -> bool
 
 // A header that is for this receiver.
 fn heard(rx: Receiver, t: Transaction, full: bool) -> Step
-    ensures { λ r. ⌜ r ≡ heardBy rx t full ⌝ }
+    ensures { λ r. ⌜ r ≡ onHeard rx t full ⌝ }
 {
     if is_repeat(rx, t, full) {
         return Step {

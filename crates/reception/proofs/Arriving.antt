@@ -21,7 +21,7 @@ use Rattle.receiver_state.specs.declared.Receiver.{Receiver}
 use Rattle.reception.specs.declared.Answer.the-variants.{Refused}
 use Rattle.reception.specs.declared.Arrival.{Arrival}
 use Rattle.reception.specs.declared.Received.{Received}
-use Rattle.reception.specs.Reception.{Left, withAnswer, arrivalOf, arrivedNumber, byReceiver, passedOn, onDatagram}
+use Rattle.reception.specs.Reception.{DatagramLeft, withAnswer, arrivalOf, arrivedNumber, byReceiver, passedOn, onDatagram}
 use Rattle.reception.specs.Claims.{Arrives}
 use Rattle.foundation.specs.Order.{firstFailed}
 use Rattle.foundation.proofs.Order.{itself}
@@ -38,8 +38,8 @@ module _ (rx : Receiver) (store d : List ℕ) where
   abbrev pub Led : Received → List ℕ → Type 0
   Led r next = (r ≡ onDatagram rx store d .received) × (next ≡ onDatagram rx store d .store) × Arrives rx store d
 
-  led : (l : Left) → l ≡ onDatagram rx store d → Led (l .received) (l .store)
-  led l e = (ap (λ (x : Left). x .received) e, ap (λ (x : Left). x .store) e, claims .datagram rx store d)
+  led : (l : DatagramLeft) → l ≡ onDatagram rx store d → Led (l .received) (l .store)
+  led l e = (ap (λ (x : DatagramLeft). x .received) e, ap (λ (x : DatagramLeft). x .store) e, claims .datagram rx store d)
 
   refused : (n : ℕ) → n ≢ 0 → arrivedNumber rx store d ≡ n → Led (withAnswer rx (Refused n)) store
   unfolding onDatagram

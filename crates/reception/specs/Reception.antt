@@ -38,12 +38,12 @@ unfoldable pub byReceiver : Step → Received
 byReceiver s = withAnswer (s .receiver) (Confirmed (s .answer))
 
 -- what is received, and the store after it
-pub record Left : Type 0 where
+pub record DatagramLeft : Type 0 where
   pub received : Received
   pub store : List ℕ
 
 -- a header or a block goes to the confirmed receiver
-unfoldable pub passedOn : Receiver → List ℕ → Kind → List ℕ → Left
+unfoldable pub passedOn : Receiver → List ℕ → Kind → List ℕ → DatagramLeft
 passedOn rx store Header os = record { received = byReceiver (onHeader rx os); store = store }
 passedOn rx store Block os = record { received = byReceiver (onBlock rx store os .step); store = onBlock rx store os .store }
 passedOn rx store Other os = record { received = withAnswer rx (Refused 5); store = store }
@@ -53,7 +53,7 @@ unfoldable pub arrivedNumber : Receiver → List ℕ → List ℕ → ℕ
 arrivedNumber rx store d =
     firstFailed ((receiverGood rx, 1) ∷ (eqb (length store) storeSize, 1) ∷ (eqb (arrivalOf d .number) 0, arrivalOf d .number) ∷ [])
 
-unfoldable pub onDatagram : Receiver → List ℕ → List ℕ → Left
+unfoldable pub onDatagram : Receiver → List ℕ → List ℕ → DatagramLeft
 onDatagram rx store d =
     cond (eqb (arrivedNumber rx store d) 0) (passedOn rx store (arrivalOf d .kind) (arrivalOf d .octets))
     (record { received = withAnswer rx (Refused (arrivedNumber rx store d)); store = store })

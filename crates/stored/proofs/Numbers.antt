@@ -19,7 +19,7 @@ use Rattle.packets.proofs.Octets.{Octets}
 use Rattle.receiver_state.specs.Receiver.{storeSize, receiverGood}
 use Rattle.receiver_state.specs.declared.Receiver.{Receiver}
 use Rattle.stored.specs.Stored.{storedBlock, zerosAt, zeroPart, saved, saveNumber, afterSave, block0, block1, receiverIn, storeIn, zerosFrom, clear, layoutTests, restoreTests, restoreNumber, restored, afterRestore}
-use Rattle.stored.specs.Parts.{usable, marked, checked, layoutKept}
+use Rattle.stored.specs.Parts.{usable, marked, messageChecked, layoutKept}
 use Rattle.stored.specs.declared.restoring.Restored.{Restored}
 
 -- ---- receivers and sizes
@@ -81,19 +81,19 @@ module _ (a b : List ℕ) (rx : Receiver) (store : List ℕ) where
       ∷ eqb (getD a 3 0) (getD b 3 0) ∷ []
 
   abbrev others : List Bool
-  others = receiverGood rx ∷ clear rx store storeSize ∷ zerosFrom b zerosAt zeroPart ∷ checked rx store ∷ []
+  others = receiverGood rx ∷ clear rx store storeSize ∷ zerosFrom b zerosAt zeroPart ∷ messageChecked rx store ∷ []
 
   pub rule-broken : (i : ℕ) → getD (marked a b ∷ others) i true ≡ false → false ≡ layoutKept a b rx store
   unfolding layoutKept
   rule-broken i e = sym (all-fails _ i e)
 
   pub last-rule : marked a b ≡ true → receiverGood rx ≡ true → clear rx store storeSize ≡ true → zerosFrom b zerosAt zeroPart ≡ true
-      → checked rx store ≡ layoutKept a b rx store
+      → messageChecked rx store ≡ layoutKept a b rx store
   unfolding layoutKept all
-  last-rule m g k z = sym (rw (m, g, k, z) (sym (last (checked rx store))))
+  last-rule m g k z = sym (rw (m, g, k, z) (sym (last (messageChecked rx store))))
 
   layout-first : (us : List (Bool × ℕ)) → firstFailed (layoutTests a b rx store ++ us) ≡ cond (layoutKept a b rx store) (firstFailed us) 18
-  unfolding layoutTests layoutKept marked checked all
+  unfolding layoutTests layoutKept marked messageChecked all
   layout-first us = alike-first 18 (marks ++ others) us ∙ ap (λ (t : Bool). cond t (firstFailed us) 18) (all-append marks others)
 
 -- ---- restoring

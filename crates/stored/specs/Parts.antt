@@ -23,10 +23,10 @@ marked a b =
     ∷ eqb (getD a 3 0) (getD b 3 0) ∷ [])
 
 -- a complete transaction has a good message check
-unfoldable pub checked : Receiver → List ℕ → Bool
-checked rx store = cond (eqb (rx .phase) 2) (messageGood (take (blockSize * rx .transaction .blocks) store)) true
+unfoldable pub messageChecked : Receiver → List ℕ → Bool
+messageChecked rx store = cond (eqb (rx .phase) 2) (messageGood (take (blockSize * rx .transaction .blocks) store)) true
 
 -- every rule of the layout is kept
 unfoldable pub layoutKept : List ℕ → List ℕ → Receiver → List ℕ → Bool
 layoutKept a b rx store =
-    all (marked a b ∷ receiverGood rx ∷ clear rx store storeSize ∷ zerosFrom b zerosAt zeroPart ∷ checked rx store ∷ [])
+    all (marked a b ∷ receiverGood rx ∷ clear rx store storeSize ∷ zerosFrom b zerosAt zeroPart ∷ messageChecked rx store ∷ [])

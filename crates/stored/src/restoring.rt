@@ -6,7 +6,7 @@ ghost use lib.ListN.{length};
 ghost use Rattle.receiver_state.specs.Receiver.{storeSize, receiverGood};
 ghost use Rattle.stored.specs.Stored.{storedBlock, zerosAt, zeroPart, receiverIn, storeIn, zerosFrom, clear, restoreNumber, restored, afterRestore};
 ghost use Rattle.stored.specs.Claims.{SavesBack};
-ghost use Rattle.stored.specs.Parts.{marked, checked, layoutKept};
+ghost use Rattle.stored.specs.Parts.{marked, messageChecked, layoutKept};
 use crate::saving::CHECKED;
 use crate::saving::FIRST_PART;
 use crate::saving::STORE_AT_0;
@@ -113,7 +113,7 @@ fn ends_in_zeros(b: &[u8]) -> bool
 // Whether the message check is good, if the transaction is complete.
 fn is_checked(rx: Receiver, store: [u8; STORE]) -> bool
     requires { ⌜ receiverGood rx ≡ true ⌝ }
-    ensures { λ r. ⌜ r ≡ checked rx store ⌝ }
+    ensures { λ r. ⌜ r ≡ messageChecked rx store ⌝ }
 {
     if rx.phase != 2 {
         return true;

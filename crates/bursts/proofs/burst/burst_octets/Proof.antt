@@ -3,14 +3,14 @@
 use Prim.Native.Nat.{_*_, _-_, _≤_}
 use native.Mathlib.Omega.{arith}
 use lib.Dec.{lit≤}
-use Rattle.foundation.specs.Bits.{number, octets}
+use Rattle.foundation.specs.Bits.{valueOf, octets}
 use Rattle.foundation.proofs.Filling.{Filled, filled-start, filled-more, filled-done}
 use Rattle.bursts.specs.Bursts.{burstBits}
 use Rattle.bursts.proofs.burst.burst_octets.Statement.{statement}
 use Rattle.bursts.proofs.burst.burst_octets.Tie as tie
 
 abbrev Inv-loop : tie.InvT-loop
-Inv-loop f slot sync b₀ j₀ b j = (j ≤ 33) × Filled 33 (λ k. number (burstBits f slot sync) (8 * k) 8) j b
+Inv-loop f slot sync b₀ j₀ b j = (j ≤ 33) × Filled 33 (λ k. valueOf (burstBits f slot sync) (8 * k) 8) j b
 
 abbrev μ-loop : tie.MeasureT-loop
 μ-loop f slot sync b₀ j₀ b j = 33 - j
@@ -18,7 +18,7 @@ abbrev μ-loop : tie.MeasureT-loop
 loop-holds : tie.Need-loop-holds Inv-loop μ-loop
 loop-holds c =
     let a = c .before .args in
-    (lit≤ tt, filled-start 33 (λ k. number (burstBits (a .f .now) (a .slot) (a .sync)) (8 * k) 8) 0 (λ i h. absurd (omega arith)))
+    (lit≤ tt, filled-start 33 (λ k. valueOf (burstBits (a .f .now) (a .slot) (a .sync)) (8 * k) 8) 0 (λ i h. absurd (omega arith)))
 
 burst-octet-requires : tie.Need-burst-octet-requires Inv-loop μ-loop
 burst-octet-requires c κs = (c .before .before .before .pre, omega arith)
@@ -36,14 +36,14 @@ loop-again : tie.Need-loop-again Inv-loop μ-loop
 loop-again c =
     let a = c .before .before .before .before .args in
     let l = c .before .before .loop in
-    (omega arith, filled-more 33 (λ k. number (burstBits (a .f .now) (a .slot) (a .sync)) (8 * k) 8) (l .j) (c .burst-octet .result) (l .b) (c .before .loop-test .taken) (c .burst-octet .ensures) (l .inv .1))
+    (omega arith, filled-more 33 (λ k. valueOf (burstBits (a .f .now) (a .slot) (a .sync)) (8 * k) 8) (l .j) (c .burst-octet .result) (l .b) (c .before .loop-test .taken) (c .burst-octet .ensures) (l .inv .1))
 
 returns : tie.Need-returns Inv-loop μ-loop
 unfolding octets
 returns c =
     let a = c .before .before .before .args in
     let l = c .before .loop in
-    filled-done 33 (λ k. number (burstBits (a .f .now) (a .slot) (a .sync)) (8 * k) 8) (l .j) (l .b) (λ i h k. absurd (omega arith)) (l .inv .1)
+    filled-done 33 (λ k. valueOf (burstBits (a .f .now) (a .slot) (a .sync)) (8 * k) 8) (l .j) (l .b) (λ i h k. absurd (omega arith)) (l .inv .1)
 
 pub burst-octets-spec : {M : Type 1} → statement M
 burst-octets-spec =

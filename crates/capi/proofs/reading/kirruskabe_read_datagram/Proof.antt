@@ -7,7 +7,7 @@ use native.Mathlib.Omega.{arith}
 use lib.ListN.{length}
 use borrow.Author.Needs.{needs}
 use Rattle.datagrams.specs.declared.Datagram.{Datagram}
-use Rattle.layouts.specs.Layouts.{labelOctets, datagramOctets}
+use Rattle.layouts.specs.Layouts.{labelLayout, datagramOctets}
 use Rattle.capi.specs.Answers.{datagramRead}
 use Rattle.layouts.proofs.Giving.{gives-as}
 use Rattle.capi.proofs.reading.kirruskabe_read_datagram.Statement.{statement}
@@ -29,7 +29,7 @@ same-length : tie.Need-same-length
 same-length c = search needs
 
 returns : tie.Need-returns
-unfolding datagramRead datagramOctets labelOctets
+unfolding datagramRead datagramOctets labelLayout
 returns c =
     let w = c .before .before .before .before .before .before .before .before .before .before .read in
     let head = c .before .before .before .before .before .before .before .before .label-octets in

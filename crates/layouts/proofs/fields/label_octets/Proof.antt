@@ -1,7 +1,7 @@
 -- `layouts::fields::label_octets` meets its contract.
 -- Assumes nothing.
 use borrow.Author.Needs.{needs}
-use Rattle.layouts.specs.Layouts.{labelOctets}
+use Rattle.layouts.specs.Layouts.{labelLayout}
 use Rattle.layouts.proofs.fields.label_octets.Statement.{statement}
 use Rattle.layouts.proofs.fields.label_octets.Tie as tie
 
@@ -60,7 +60,7 @@ array-read-t51 : tie.Need-array-read-t51
 array-read-t51 c = search needs
 
 returns : tie.Need-returns
-unfolding labelOctets
+unfolding labelLayout
 returns c =
     rw (c .before .before .before .radio-octets .ensures, c .before .before .radio-octets2 .ensures, c .before .four-octets .ensures, c .four-octets2 .ensures)
 

@@ -2,7 +2,7 @@
 -- Assumes nothing.
 use mathlib.Core.Path.{sym, ap, _∙_}
 use borrow.Author.Needs.{needs}
-use Rattle.messages.specs.Parts.{answerTo}
+use Rattle.messages.specs.Parts.{responseBy}
 use Rattle.packets.specs.declared.header.Header.{Header}
 use Rattle.messages.proofs.response.answer_to.Statement.{statement}
 use Rattle.messages.proofs.response.answer_to.Tie as tie
@@ -26,16 +26,16 @@ refused-requires-2 : tie.Need-refused-requires-2
 refused-requires-2 c κs = search needs
 
 returns : tie.Need-returns
-unfolding answerTo
-returns c = c .answer-beside .ensures ∙ sym (ap (λ (h : Header). answerTo h (c .before .before .before .before .before .args .block .now)) (c .before .before .h .given .1))
+unfolding responseBy
+returns c = c .answer-beside .ensures ∙ sym (ap (λ (h : Header). responseBy h (c .before .before .before .before .before .args .block .now)) (c .before .before .h .given .1))
 
 returns-2 : tie.Need-returns-2
-unfolding answerTo
-returns-2 c = c .refused .ensures ∙ sym (ap (λ (h : Header). answerTo h (c .before .before .before .before .args .block .now)) (c .before .enum-told .given .1))
+unfolding responseBy
+returns-2 c = c .refused .ensures ∙ sym (ap (λ (h : Header). responseBy h (c .before .before .before .before .args .block .now)) (c .before .enum-told .given .1))
 
 returns-3 : tie.Need-returns-3
-unfolding answerTo
-returns-3 c = c .refused2 .ensures ∙ sym (ap (λ (h : Header). answerTo h (c .before .before .before .before .args .block .now)) (c .before .enum-told2 .given .1))
+unfolding responseBy
+returns-3 c = c .refused2 .ensures ∙ sym (ap (λ (h : Header). responseBy h (c .before .before .before .before .args .block .now)) (c .before .enum-told2 .given .1))
 
 pub answer-to-spec : {M : Type 1} → statement M
 answer-to-spec =

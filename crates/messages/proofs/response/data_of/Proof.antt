@@ -2,7 +2,7 @@
 -- Assumes nothing.
 use mathlib.Core.Path.{sym, ap, _∙_}
 use borrow.Author.Needs.{needs}
-use Rattle.messages.specs.Responses.{replyCode, dataOf}
+use Rattle.messages.specs.Responses.{replyCode, responseData}
 use Rattle.messages.specs.declared.response.Reply.{Reply}
 use Rattle.messages.proofs.response.data_of.Statement.{statement}
 use Rattle.messages.proofs.response.data_of.Tie as tie
@@ -20,16 +20,16 @@ sack-data-requires : tie.Need-sack-data-requires
 sack-data-requires c κs = search needs
 
 returns : tie.Need-returns
-unfolding replyCode dataOf
-returns c = sym (ap (λ (r : Reply). dataOf r (c .before .before .args .flags)) (c .enum-told .given .1))
+unfolding replyCode responseData
+returns c = sym (ap (λ (r : Reply). responseData r (c .before .before .args .flags)) (c .enum-told .given .1))
 
 returns-2 : tie.Need-returns-2
-unfolding replyCode dataOf
-returns-2 c = sym (ap (λ (r : Reply). dataOf r (c .before .before .args .flags)) (c .enum-told2 .given .1))
+unfolding replyCode responseData
+returns-2 c = sym (ap (λ (r : Reply). responseData r (c .before .before .args .flags)) (c .enum-told2 .given .1))
 
 returns-3 : tie.Need-returns-3
-unfolding replyCode dataOf
-returns-3 c = c .sack-data .ensures ∙ sym (ap (λ (r : Reply). dataOf r (c .before .before .before .args .flags)) (c .before .enum-told3 .given .1))
+unfolding replyCode responseData
+returns-3 c = c .sack-data .ensures ∙ sym (ap (λ (r : Reply). responseData r (c .before .before .before .args .flags)) (c .before .enum-told3 .given .1))
 
 pub data-of-spec : {M : Type 1} → statement M
 data-of-spec =

@@ -5,13 +5,13 @@ use native.Mathlib.Omega.{arith}
 use borrow.Author.Tests.{eq-eqb, ne-eqb}
 use borrow.Author.Needs.{needs}
 use lib.Seq.{length-take-le}
-use Rattle.stored.specs.Parts.{checked}
+use Rattle.stored.specs.Parts.{messageChecked}
 use Rattle.stored.proofs.RestoredBack.{fits}
 use Rattle.stored.proofs.restoring.is_checked.Statement.{statement}
 use Rattle.stored.proofs.restoring.is_checked.Tie as tie
 
 returns : tie.Need-returns
-unfolding checked
+unfolding messageChecked
 returns c = rw (ne-eqb _ 2 (c .if1 .taken))
 
 cast-size : tie.Need-cast-size
@@ -34,7 +34,7 @@ message-good-requires : tie.Need-message-good-requires
 message-good-requires c κs = search needs
 
 returns-2 : tie.Need-returns-2
-unfolding checked
+unfolding messageChecked
 returns-2 c = c .message-good .ensures ∙ rw (eq-eqb _ 2 (c .before .before .before .before .if1 .left))
 
 pub is-checked-spec : {M : Type 1} → statement M
