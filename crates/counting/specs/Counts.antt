@@ -52,6 +52,19 @@ countsOf given = record {
   refused = howMany isRefused given % 2 ^ 64;
 }
 
--- r counts one answer more than c, whatever answers c counts
-abbrev pub OneMore : Counts → Answer → Counts → Type 0
-OneMore c a r = (given : List Answer) → c ≡ countsOf given → r ≡ countsOf (given ++ (a ∷ []))
+-- the counts with one answer more
+unfoldable pub counted : Counts → Answer → Counts
+counted c a = record {
+  datagrams = (c .datagrams + 1) % 2 ^ 64;
+  messages = (c .messages + cond (isMessage a) 1 0) % 2 ^ 64;
+  refused = (c .refused + cond (isRefused a) 1 0) % 2 ^ 64;
+}
+
+-- with a list of answers more
+unfoldable pub countedAll : Counts → List Answer → Counts
+countedAll c [] = c
+countedAll c (a ∷ more) = countedAll (counted c a) more
+
+-- whatever answers are counted before: those and the list's are counted after it
+abbrev pub CountsOn : List Answer → Type 0
+CountsOn more = (given : List Answer) → countedAll (countsOf given) more ≡ countsOf (given ++ more)

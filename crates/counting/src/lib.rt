@@ -1,8 +1,9 @@
 // The counts that the gateway prints: datagrams, messages handed on and refusals, over the answers that it gave.
 ghost use mathlib.Core.Path.{_≡_};
-ghost use mathlib.Core.List.{[]};
+ghost use mathlib.Core.List.{[], _∷_};
 ghost use mathlib.Core.Bool.{cond};
-ghost use Rattle.counting.specs.Counts.{answerNumber, isMessage, isRefused, countsOf, OneMore};
+ghost use Rattle.counting.specs.Counts.{answerNumber, isMessage, isRefused, countsOf, CountsOn};
+ghost use Rattle.counting.specs.Counts.{counted as Counts·counted};
 ghost use Rattle.reception.specs.declared.Answer.the-variants.{Confirmed};
 use receiver::event;
 use reception::Answer;
@@ -84,7 +85,7 @@ fn marks_of(a: Answer) -> Marks
 
 // The counts with one answer more.
 pub fn counted(c: Counts, a: Answer) -> Counts
-    ensures { λ r. ⌜ OneMore c a r ⌝ }
+    ensures { λ r. ⌜ (r ≡ Counts·counted c a) × CountsOn (a ∷ []) ⌝ }
 {
     let m = marks_of(a);
     Counts {

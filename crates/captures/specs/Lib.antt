@@ -1,0 +1,4 @@
+pub mod Lines
+pub mod Captures
+pub mod Claims
+pub mod Parts
