@@ -1,6 +1,6 @@
 -- What is asked of a form is to the history rule a refusal that changes nothing, or an event.
 -- Assumes nothing.
-use mathlib.Core.Path.{_≡_, refl}
+use mathlib.Core.Path.{_≡_, refl, _∙_}
 use mathlib.Core.Bool.{true, false}
 use mathlib.Core.List.{List, [], _∷_}
 use mathlib.Core.Logic.{_≢_}
@@ -80,9 +80,17 @@ module _ (own : RadioAddress) (p : History) where
   carried Other os e o = never e refl
 
   module _ (d : List ℕ) where
+    said-carried : datagramNumber d ≡ 0 → saidToDatagram own p d ≡ saidToCarried own p (arrivalOf d .kind) (arrivalOf d .octets)
+    unfolding saidToDatagram
+    said-carried z = rw z
+
+    after-carried : datagramNumber d ≡ 0 → ruleAfter own p d ≡ afterCarried own p (arrivalOf d .kind) (arrivalOf d .octets)
+    unfolding ruleAfter
+    after-carried z = rw z
+
     asking-carried : datagramNumber d ≡ 0 → Carries (arrivalOf d .kind) (arrivalOf d .octets) → Asking (a-datagram d)
-    unfolding numberBefore recordAsked saidToAsked afterAsked saidToDatagram ruleAfter
-    asking-carried z (carries e o is same next) = happens-as e o z is (rw z same) (rw z next)
+    unfolding numberBefore recordAsked saidToAsked afterAsked
+    asking-carried z (carries e o is same next) = happens-as e o z is (said-carried z ∙ same) (after-carried z ∙ next)
 
     read : datagramNumber d ≡ 0 → known (arrivalOf d .kind) ≡ true
     read z = brings d (unfold arrivalOf in z)
