@@ -50,14 +50,15 @@ extern "C" {
 /* The stored form of a fresh receiver with this address. 16: address over 24 bits. */
 uint8_t kirruskabe_fresh(uint32_t own, uint16_t stamp, uint8_t *form, size_t form_len);
 
-/* An event: the stored form after it replaces the one given, and `line` gets the answer. form: 1,024 octets; line: 1,027.
-   1: a size; 17, 18: the stored form given is not one; then the event's own numbers. */
+/* An event: the stored form after it replaces the one given, and `line` gets the answer. form: 1,024 octets; line: 1,027; datagram: 53;
+   header and block: 12. The order of the numbers: 1 for every size first, whatever else is wrong; then 17, 18: the stored form given is not
+   one; then the event's own numbers, in the order that stands behind each function. */
 uint8_t kirruskabe_on_datagram(uint8_t *form, size_t form_len, uint16_t stamp, const uint8_t *datagram, size_t datagram_len,
-                               uint8_t *line, size_t line_len); /* 1 to 7, then as a header or a block */
+                               uint8_t *line, size_t line_len); /* 2 to 7, then as a header or a block */
 uint8_t kirruskabe_on_header(uint8_t *form, size_t form_len, uint16_t stamp, const uint8_t *header, size_t header_len,
-                             uint8_t *line, size_t line_len); /* 1, 8, 9, 10, 11, 12 */
+                             uint8_t *line, size_t line_len); /* 8, 9, 10, 11, 12 */
 uint8_t kirruskabe_on_block(uint8_t *form, size_t form_len, uint16_t stamp, const uint8_t *block, size_t block_len,
-                            uint8_t *line, size_t line_len); /* 1, 13, 12, 14, 15 */
+                            uint8_t *line, size_t line_len); /* 13, 12, 14, 15 */
 uint8_t kirruskabe_on_end(uint8_t *form, size_t form_len, uint16_t stamp, uint8_t *line, size_t line_len); /* 12 */
 
 /* ---- writing

@@ -1,8 +1,10 @@
 //! Stored forms: every change of one octet, and forms with good checks whose layout is broken.
 
 use super::bench::{good, Bench, Check};
-use super::events::some_history;
+use super::events::{in_datagram, some_history, Event};
+use super::formats::damage_datagram;
 use super::interface::{Call, Octets, LINE};
+use crate::reference::burst::read_datagram;
 use crate::reference::history::{flag_octets, History, Transaction};
 use crate::reference::packet::*;
 use crate::reference::stored::*;
@@ -260,30 +262,49 @@ fn sizes(bench: &mut Bench) -> Check {
     Ok(())
 }
 
-/// An event of a wrong size over octets that are no stored form: by the table 1 is lower, by the header of the library the stored form
-/// comes first. Either way the memory stays.
+/// A stored form that is none, together with a fault of the event: 1 for every size comes first, then 17 or 18, then the event's own
+/// numbers.
 fn two_faults(bench: &mut Bench) -> Check {
     let good_form = save(&sent(bench, 50, 3)?, 1);
-    for round in 0..60 {
+    for form_number in [STORED_CHECK, STORED_LAYOUT] {
         let mut form = good_form.clone();
         form[0] = 9;
-        if round % 2 == 0 {
+        if form_number == STORED_LAYOUT {
             with_checks(&mut form);
         }
-        let size = bench.random.below(11);
-        let octets = Octets(bench.random.octets(size));
         let stamp = bench.random.stamp();
-        let line = bench.random.octets(LINE);
-        let call = match round % 3 {
-            0 => Call::OnHeader { stamp, header: octets },
-            1 => Call::OnBlock { stamp, block: octets },
-            _ => Call::OnDatagram { stamp, datagram: octets },
-        };
-        let form_number = if round % 2 == 0 { 18 } else { 17 };
-        let left = bench.call(&call, &form, &line)?;
-        let point = "an event of a wrong size over octets that are no stored form";
-        bench.check(left.result == 1 || left.result == form_number, || format!("{call:?} over a bad form gives {}", left.result))?;
-        bench.reading(point, if left.result == 1 { "1" } else { "17 or 18" })?;
+        for size in (0..=64).chain([1024, 65_536]) {
+            let octets = Octets(bench.random.octets(size));
+            let number = |right: usize| if size == right { form_number } else { SIZE };
+            refused_with(bench, &Call::OnHeader { stamp, header: octets.clone() }, &form, number(12))?;
+            refused_with(bench, &Call::OnBlock { stamp, block: octets.clone() }, &form, number(12))?;
+            refused_with(bench, &Call::OnDatagram { stamp, datagram: octets }, &form, number(53))?;
+        }
+        for number in PREFIX..=RESERVED {
+            let call = Call::OnDatagram { stamp, datagram: refused_datagram(bench, number).into() };
+            refused_with(bench, &call, &good_form, number)?;
+            refused_with(bench, &call, &form, form_number)?;
+        }
     }
     Ok(())
+}
+
+/// The event gets this number from the reference too.
+fn refused_with(bench: &mut Bench, call: &Call, form: &[u8], number: u8) -> Check {
+    let line = bench.random.octets(LINE);
+    let result = bench.compare_over(call, form, &line)?.result;
+    bench.check(result == number.into(), || format!("the reference itself: {call:?} gets {result}, not {number}"))
+}
+
+/// A datagram that is refused with this number, 2 to 7.
+fn refused_datagram(bench: &mut Bench, number: u8) -> Vec<u8> {
+    loop {
+        let mut datagram = in_datagram(bench, &Event::End);
+        if datagram.len() == 53 {
+            damage_datagram(bench, &mut datagram);
+        }
+        if read_datagram(&datagram).err() == Some(number) {
+            return datagram;
+        }
+    }
 }

@@ -178,8 +178,18 @@ fn answer(call: &Call, first: &mut [u8], second: &mut [u8]) -> Answer<()> {
     Ok(())
 }
 
-/// An event on a stored form: the stored form and the answer after it.
+/// What an event is given has the right size; an end of attempt is given nothing.
+fn given_is_sized(call: &Call) -> bool {
+    match call {
+        Call::OnDatagram { datagram, .. } => datagram.0.len() == 53,
+        Call::OnHeader { header: octets, .. } | Call::OnBlock { block: octets, .. } => octets.0.len() == 12,
+        _ => true,
+    }
+}
+
+/// An event on a stored form: the stored form and the answer after it. Every size comes before the stored form's numbers.
 fn event(call: &Call, form: &[u8]) -> Answer<(Vec<u8>, Vec<u8>)> {
+    refuse_if(!given_is_sized(call) && !wrong(Wrong::FormBeforeSize), SIZE)?;
     let mut history = restore(None, form)?;
     let (stamp, given) = match call {
         Call::OnDatagram { stamp, datagram } => (stamp, history.on_datagram(&datagram.0)?),

@@ -27,6 +27,8 @@ pub enum Wrong {
     StampsNotCompared,
     /// Octets of blocks not held are not asked to be zero.
     StoreNotTested,
+    /// The numbers of a stored form come before the size of what an event is given.
+    FormBeforeSize,
     /// Lent memory is cleared before the checks.
     ClearsLentMemory,
     /// The gateway leaves out leftover octets.
@@ -35,7 +37,7 @@ pub enum Wrong {
     CutRecordSilent,
 }
 
-pub const ALL: [Wrong; 14] = [
+pub const ALL: [Wrong; 15] = [
     Wrong::RowsZeroToEightOnly,
     Wrong::FourWrongBitsTaken,
     Wrong::PartialCountTakenForMessage,
@@ -47,6 +49,7 @@ pub const ALL: [Wrong; 14] = [
     Wrong::SecondBlockWins,
     Wrong::StampsNotCompared,
     Wrong::StoreNotTested,
+    Wrong::FormBeforeSize,
     Wrong::ClearsLentMemory,
     Wrong::LeftoverNotCounted,
     Wrong::CutRecordSilent,

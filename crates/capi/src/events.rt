@@ -1,11 +1,8 @@
 // The receiver, for C: its state is its stored form. A stamp has its most significant octet first.
 ghost use mathlib.Core.Path.{_≡_};
 ghost use Prim.Native.Nat.{_/_, _%_};
-ghost use Rattle.datagrams.specs.Datagrams.{datagramNumber};
 ghost use Rattle.history.specs.History.{header, block, ended};
-ghost use Rattle.history.specs.Run.{event};
-ghost use Rattle.logs.specs.Log.{act};
-ghost use Rattle.forms.specs.Forms.{freshNumber, afterFresh, carried};
+ghost use Rattle.forms.specs.Forms.{freshNumber, afterFresh, an-event, a-datagram};
 ghost use Rattle.capi.specs.Events.{addressOf, Acts};
 use addresses::RadioAddress;
 
@@ -38,7 +35,7 @@ pub extern "C" fn kirruskabe_on_datagram(
     datagram: &[u8],
     line: &mut [u8],
 ) -> u8
-    ensures { λ r. ⌜ Acts (datagramNumber (now (datagram .entry))) (carried (now (datagram .entry))) stamp (now (form .entry)) (now (line .entry)) r (now (form .exit)) (now (line .exit)) ⌝ }
+    ensures { λ r. ⌜ Acts (a-datagram (now (datagram .entry))) stamp (now (form .entry)) (now (line .entry)) r (now (form .exit)) (now (line .exit)) ⌝ }
 {
     forms::on_datagram(form, high(stamp), low(stamp), datagram, line)
 }
@@ -51,7 +48,7 @@ pub extern "C" fn kirruskabe_on_header(
     octets: &[u8],
     line: &mut [u8],
 ) -> u8
-    ensures { λ r. ⌜ Acts 0 (act (event (header (now (octets .entry))))) stamp (now (form .entry)) (now (line .entry)) r (now (form .exit)) (now (line .exit)) ⌝ }
+    ensures { λ r. ⌜ Acts (an-event (header (now (octets .entry)))) stamp (now (form .entry)) (now (line .entry)) r (now (form .exit)) (now (line .exit)) ⌝ }
 {
     forms::on_header(form, high(stamp), low(stamp), octets, line)
 }
@@ -64,7 +61,7 @@ pub extern "C" fn kirruskabe_on_block(
     octets: &[u8],
     line: &mut [u8],
 ) -> u8
-    ensures { λ r. ⌜ Acts 0 (act (event (block (now (octets .entry))))) stamp (now (form .entry)) (now (line .entry)) r (now (form .exit)) (now (line .exit)) ⌝ }
+    ensures { λ r. ⌜ Acts (an-event (block (now (octets .entry)))) stamp (now (form .entry)) (now (line .entry)) r (now (form .exit)) (now (line .exit)) ⌝ }
 {
     forms::on_block(form, high(stamp), low(stamp), octets, line)
 }
@@ -72,7 +69,7 @@ pub extern "C" fn kirruskabe_on_block(
 // An end of attempt.
 #[no_mangle]
 pub extern "C" fn kirruskabe_on_end(form: &mut [u8], stamp: u16, line: &mut [u8]) -> u8
-    ensures { λ r. ⌜ Acts 0 (act (event ended)) stamp (now (form .entry)) (now (line .entry)) r (now (form .exit)) (now (line .exit)) ⌝ }
+    ensures { λ r. ⌜ Acts (an-event ended) stamp (now (form .entry)) (now (line .entry)) r (now (form .exit)) (now (line .exit)) ⌝ }
 {
     forms::on_end(form, high(stamp), low(stamp), line)
 }

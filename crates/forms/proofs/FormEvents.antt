@@ -1,8 +1,8 @@
 -- An event on a form: the order of its checks, and what each leaves.
 -- Assumes nothing.
 use mathlib.Core.Path.{_≡_, refl, sym, ap, subst, _∙_}
-use mathlib.Core.Bool.{true, false}
-use mathlib.Core.List.{List, []}
+use mathlib.Core.Bool.{true, false, not}
+use mathlib.Core.List.{List, [], _∷_}
 use mathlib.Core.Logic.{_≢_}
 use Prim.Native.Nat.{ℕ, _*_}
 use native.Mathlib.Omega.{arith}
@@ -14,7 +14,6 @@ use Rattle.foundation.specs.Order.{firstFailed, all}
 use Rattle.bursts.specs.Bursts.{known}
 use Rattle.bursts.specs.declared.burst.Kind.{Kind}
 use Rattle.bursts.specs.declared.burst.Kind.the-variants.{Header, Block, Other}
-use Rattle.datagrams.specs.Datagrams.{datagramNumber}
 use Rattle.reception.specs.Reception.{arrivalOf}
 use Rattle.reception.specs.declared.Arrival.{Arrival}
 use Rattle.reception.proofs.Claims.{brings}
@@ -27,11 +26,11 @@ use Rattle.stored.specs.Claims.{Savable}
 use Rattle.history.specs.History.{Event, header, block, ended}
 use Rattle.history.specs.Run.{event, State, answerTo, savedForm}
 use Rattle.history.specs.Claims.{Octets}
-use Rattle.history.proofs.Demand3.{Given}
+use Rattle.history.proofs.Demand3 as demand3
 use Rattle.logs.specs.Log.{Record, act, none, recordOf, lineOf, afterRecord, lineIn, lineSize, stateOf}
 use Rattle.logs.proofs.OneRecord.{header-kind, block-kind, end-kind, form-of}
-use Rattle.forms.specs.Forms.{stateIn, formNumber, lineNumber, eventNumber, formAfter, lineAfter, carriedBy, carried}
-use Rattle.forms.specs.Parts.{AnEvent, Answered, kindNumber}
+use Rattle.forms.specs.Forms.{stateIn, formNumber, lineNumber, Asked, an-event, a-datagram, numberBefore, carriedBy, recordAsked, lineAsked, stateAsked, eventNumber, formAfter, lineAfter}
+use Rattle.forms.specs.Parts.{AnEvent, Answered, ActsOn, ActsAs, sizeNumber, kindNumber}
 use Rattle.forms.proofs.Answers.{line-refused, line-taken, numbered, refused-numbered}
 use Rattle.forms.proofs.HeldHistory.{savable-after}
 
@@ -40,7 +39,7 @@ use Rattle.forms.proofs.HeldHistory.{savable-after}
 pub record Happens (r : Record) : Type 0 where
   pub what : Event
   pub is : r ≡ act (event what)
-  pub given : Given what
+  pub given : demand3.Given what
 
 pub happens : (kind : ℕ) (os : List ℕ) → AnEvent kind os → Octets os → Happens (recordOf kind os)
 happens kind os (few, empty) small = go (ℕ-discrete kind 0) (ℕ-discrete kind 1)
@@ -91,7 +90,7 @@ module _ (rx : Receiver) (store : List ℕ) (m : Savable rx store) (small : Octe
   abbrev SavableAfter : Record → Type 0
   SavableAfter r = Savable (afterRecord (stateOf rx store) r .receiver) (afterRecord (stateOf rx store) r .store)
 
-  event-savable : (e : Event) → Given e → SavableAfter (act (event e))
+  event-savable : (e : Event) → demand3.Given e → SavableAfter (act (event e))
   unfolding afterRecord
   event-savable e o = savable-after rx store m small e o
 
@@ -105,12 +104,16 @@ module _ (rx : Receiver) (store : List ℕ) (m : Savable rx store) (small : Octe
 
 -- ---- the order of checks
 
-module _ (form : List ℕ) (s0 s1 : ℕ) (line : List ℕ) (number : ℕ) (r : Record) where
-  abbrev pub Outcome : ℕ → List ℕ → List ℕ → Type 0
-  Outcome n form′ line′ =
-      (n ≡ eventNumber form line number r) × (form′ ≡ formAfter form s0 s1 line number r) × (line′ ≡ lineAfter form line number r)
+unfoldable behindSizes : List ℕ → Asked → ℕ
+behindSizes form a =
+    firstFailed ((not (eqb (numberBefore a) 1), 1) ∷ (eqb (formNumber form) 0, formNumber form) ∷ (eqb (numberBefore a) 0, numberBefore a)
+    ∷ (eqb (lineNumber (lineAsked form a)) 0, lineNumber (lineAsked form a)) ∷ [])
 
-  no-change : (n : ℕ) → eventNumber form line number r ≡ n → n ≢ 0 → Outcome n form line
+module _ (form : List ℕ) (s0 s1 : ℕ) (line : List ℕ) (a : Asked) where
+  abbrev pub Outcome : ℕ → List ℕ → List ℕ → Type 0
+  Outcome = ActsOn a s0 s1 form line
+
+  no-change : (n : ℕ) → eventNumber form line a ≡ n → n ≢ 0 → Outcome n form line
   unfolding formAfter lineAfter
   no-change n e d = (sym e, rw (e, ne-eqb n 0 d), rw (e, ne-eqb n 0 d))
 
@@ -118,40 +121,78 @@ module _ (form : List ℕ) (s0 s1 : ℕ) (line : List ℕ) (number : ℕ) (r : R
   other-line d = no-change 1 (unfold eventNumber firstFailed in rw (ne-eqb (length line) lineSize d)) (λ z. omega arith)
 
   module _ (room : length line ≡ lineSize) where
-    pub form-refused : (n : ℕ) → n ≡ formNumber form → n ≢ 0 → Outcome n form line
-    form-refused n e d =
-        no-change n (unfold eventNumber firstFailed in rw (eq-eqb (length line) lineSize room, ← e, ne-eqb n 0 d)) d
+    pub other-form : length form ≢ 2 * storedBlock → Outcome 1 form line
+    other-form d =
+        no-change 1 (unfold eventNumber firstFailed in rw (eq-eqb (length line) lineSize room, ne-eqb (length form) (2 * storedBlock) d))
+        (λ z. omega arith)
 
-    module _ (taken : formNumber form ≡ 0) where
-      pub number-refused : number ≢ 0 → Outcome number form line
-      number-refused d =
-          no-change number (unfold eventNumber firstFailed in rw (eq-eqb (length line) lineSize room, taken, ne-eqb number 0 d)) d
+    module _ (size : length form ≡ 2 * storedBlock) where
+      -- the tests behind the sizes of the line and of the form
+      behind-sizes : eventNumber form line a ≡ behindSizes form a
+      unfolding eventNumber behindSizes firstFailed
+      behind-sizes = rw (eq-eqb (length line) lineSize room, eq-eqb (length form) (2 * storedBlock) size)
 
-      number-left : number ≡ 0 → eventNumber form line number r ≡ lineNumber (lineOf (stateIn form) r)
-      unfolding eventNumber firstFailed
-      number-left zero = rw (eq-eqb (length line) lineSize room, taken, zero) (itself (lineNumber (lineOf (stateIn form) r)))
+      pub other-asked : numberBefore a ≡ 1 → Outcome 1 form line
+      other-asked e =
+          no-change 1 (behind-sizes ∙ unfold behindSizes firstFailed in rw (eq-eqb (numberBefore a) 1 e)) (λ z. omega arith)
 
-      pub answer-left : number ≡ 0 → (s : State) → s ≡ stateIn form → (n : ℕ) (form′ line′ : List ℕ) → Answered s r s0 s1 form line n form′ line′
-          → Outcome n form′ line′
-      unfolding formAfter lineAfter
-      answer-left zero s is n form′ line′ a =
-          let e : eventNumber form line number r ≡ lineNumber (lineOf (stateIn form) r) = number-left zero in
-          let b : Answered (stateIn form) r s0 s1 form line n form′ line′ = rw is at a in
-          rw e b
+      module _ (other : numberBefore a ≢ 1) where
+        pub form-refused : (n : ℕ) → n ≡ formNumber form → n ≢ 0 → Outcome n form line
+        form-refused n e d =
+            no-change n (behind-sizes ∙ unfold behindSizes firstFailed in rw (ne-eqb (numberBefore a) 1 other, ← e, ne-eqb n 0 d)) d
 
--- the same with another name for the number and the record
-module _ (form : List ℕ) (s0 s1 : ℕ) (line : List ℕ) (n n′ : ℕ) (r r′ : Record) (k : ℕ) (form′ line′ : List ℕ) where
-  pub outcome-as : n ≡ n′ → r ≡ r′ → Outcome form s0 s1 line n r k form′ line′ → Outcome form s0 s1 line n′ r′ k form′ line′
-  outcome-as e f o = rw (← e, ← f) o
+        module _ (taken : formNumber form ≡ 0) where
+          pub number-refused : (n : ℕ) → numberBefore a ≡ n → n ≢ 0 → Outcome n form line
+          number-refused n e d =
+              no-change n (behind-sizes ∙ unfold behindSizes firstFailed in rw (ne-eqb (numberBefore a) 1 other, taken, e, ne-eqb n 0 d)) d
 
-pub end-is : recordOf 2 [] ≡ act (event ended)
+      -- a number before any answer
+      pub refused-outcome : formNumber form ≡ 0 → (n : ℕ) → numberBefore a ≡ n → n ≢ 0 → Outcome n form line
+      refused-outcome taken n e d = go (ℕ-discrete n 1)
+        where
+          go : Dec (n ≡ 1) → Outcome n form line
+          go (yes one) = rw one (other-asked (e ∙ one))
+          go (no other) = number-refused (λ z. other (sym e ∙ z)) taken n e d
+
+      -- nothing is refused before the answer
+      module _ (taken : formNumber form ≡ 0) (none : numberBefore a ≡ 0) where
+        pub number-left : eventNumber form line a ≡ lineNumber (lineAsked form a)
+        number-left = behind-sizes ∙ unfold behindSizes firstFailed in rw (none, taken) (itself (lineNumber (lineAsked form a)))
+
+        pub answer-left : (s : State) → s ≡ stateIn form → (r : Record) → recordAsked a ≡ r → (n : ℕ) (form′ line′ : List ℕ)
+            → Answered s r s0 s1 form line n form′ line′ → Outcome n form′ line′
+        unfolding formAfter lineAfter lineAsked stateAsked
+        answer-left s is r same n form′ line′ h =
+            let e : eventNumber form line a ≡ lineNumber (lineOf (stateIn form) (recordAsked a)) = unfold lineAsked in number-left in
+            let b : Answered (stateIn form) (recordAsked a) s0 s1 form line n form′ line′ = rw (is, ← same) at h in
+            rw e b
+
+-- ---- the records of events
+
+end-is : recordOf 2 [] ≡ act (event ended)
 end-is = end-kind 2 [] (λ z. omega arith) (λ z. omega arith) refl refl
 
-pub block-is : (os : List ℕ) → recordOf 1 os ≡ act (event (block os))
+block-is : (os : List ℕ) → recordOf 1 os ≡ act (event (block os))
 block-is os = block-kind 1 os (λ z. omega arith) refl
 
-pub header-is : (os : List ℕ) → recordOf 0 os ≡ act (event (header os))
+header-is : (os : List ℕ) → recordOf 0 os ≡ act (event (header os))
 header-is os = header-kind 0 os refl
+
+module _ (os form : List ℕ) (s0 s1 : ℕ) (line : List ℕ) (n : ℕ) (form′ line′ : List ℕ) where
+  pub header-acts : (k : ℕ) → k ≡ sizeNumber os → ActsAs k 0 os s0 s1 form line n form′ line′
+      → ActsOn (an-event (header os)) s0 s1 form line n form′ line′
+  unfolding numberBefore recordAsked
+  header-acts k e g = g (an-event (header os)) (sym e) (sym (header-is os))
+
+  pub block-acts : (k : ℕ) → k ≡ sizeNumber os → ActsAs k 1 os s0 s1 form line n form′ line′
+      → ActsOn (an-event (block os)) s0 s1 form line n form′ line′
+  unfolding numberBefore recordAsked
+  block-acts k e g = g (an-event (block os)) (sym e) (sym (block-is os))
+
+module _ (form : List ℕ) (s0 s1 : ℕ) (line : List ℕ) (n : ℕ) (form′ line′ : List ℕ) where
+  pub end-acts : ActsAs 0 2 [] s0 s1 form line n form′ line′ → ActsOn (an-event ended) s0 s1 form line n form′ line′
+  unfolding numberBefore recordAsked
+  end-acts g = g (an-event ended) refl (sym end-is)
 
 -- ---- a datagram
 
@@ -172,12 +213,12 @@ event-kind Block os e = (lit< tt, λ z. absurd (omega arith))
 event-kind Other os e = never e refl
 
 module _ (d : List ℕ) (x : Arrival) (is : x ≡ arrivalOf d) (k : ℕ) (e : k ≡ kindNumber (x .kind)) where
-  pub brought-number : x .number ≡ datagramNumber d
-  unfolding arrivalOf
+  pub brought-number : numberBefore (a-datagram d) ≡ x .number
+  unfolding arrivalOf numberBefore
   brought-number = rw is
 
-  pub brought-record : recordOf k (x .octets) ≡ carried d
-  unfolding carried
+  pub brought-record : recordAsked (a-datagram d) ≡ recordOf k (x .octets)
+  unfolding recordAsked
   brought-record = rw (e, kind-is (x .kind) (x .octets), ← is)
 
   pub brought-event : x .number ≡ 0 → AnEvent k (x .octets)

@@ -1,7 +1,7 @@
 -- Events on the stored form: a receiver is restarted from its stored form, takes an event, and leaves its new stored form. A refusal changes
 -- nothing.
 -- Assumes nothing.
-use mathlib.Core.Bool.{cond}
+use mathlib.Core.Bool.{cond, not}
 use mathlib.Core.List.{List, [], _∷_}
 use Prim.Native.Nat.{ℕ, _*_}
 use lib.Dec.{eqb}
@@ -11,11 +11,12 @@ use Rattle.addresses.specs.declared.RadioAddress.{RadioAddress}
 use Rattle.foundation.specs.Order.{firstFailed}
 use Rattle.bursts.specs.declared.burst.Kind.{Kind}
 use Rattle.bursts.specs.declared.burst.Kind.the-variants.{Header, Block, Other}
+use Rattle.datagrams.specs.Datagrams.{datagramNumber}
 use Rattle.reception.specs.Reception.{arrivalOf}
 use Rattle.transactions.specs.Answers.{numberOf}
 use Rattle.receiver_state.specs.Receiver.{storeSize, freshReceiver, freshFor}
 use Rattle.stored.specs.Stored.{storedBlock, saved, block0, block1, receiverIn, storeIn, restoreNumber}
-use Rattle.history.specs.History.{header, block}
+use Rattle.history.specs.History.{Event, header, block, ended}
 use Rattle.history.specs.Run.{event, State, savedForm}
 use Rattle.logs.specs.Log.{Record, act, none, Line, answer, restarted, lineOf, afterRecord, lineIn, lineSize, stateOf}
 
@@ -46,24 +47,46 @@ unfoldable pub lineNumber : Line → ℕ
 lineNumber (answer s) = numberOf s
 lineNumber (restarted form) = 0
 
--- the order of checks of a record: the line's size, the form's numbers, then the given number and the answer's
-unfoldable pub eventNumber : List ℕ → List ℕ → ℕ → Record → ℕ
-eventNumber form line number r =
-    firstFailed ((eqb (length line) lineSize, 1) ∷ (eqb (formNumber form) 0, formNumber form) ∷ (eqb number 0, number)
-    ∷ (eqb (lineNumber (lineOf (stateIn form) r)) 0, lineNumber (lineOf (stateIn form) r)) ∷ [])
+-- what is asked of a form: that it takes an event, or a datagram
+pub data Asked : Type 0 where
+  an-event : Event → Asked
+  a-datagram : List ℕ → Asked
 
--- the form and the line after it
-unfoldable pub formAfter : List ℕ → ℕ → ℕ → List ℕ → ℕ → Record → List ℕ
-formAfter form s0 s1 line number r = cond (eqb (eventNumber form line number r) 0) (savedForm (afterRecord (stateIn form) r) s0 s1) form
+-- the number that comes before any answer: 1 for a header or a block of another size, a datagram's own number, 0 for none
+unfoldable pub numberBefore : Asked → ℕ
+numberBefore (an-event (header h)) = cond (eqb (length h) 12) 0 1
+numberBefore (an-event (block b)) = cond (eqb (length b) 12) 0 1
+numberBefore (an-event ended) = 0
+numberBefore (a-datagram d) = datagramNumber d
 
-unfoldable pub lineAfter : List ℕ → List ℕ → ℕ → Record → List ℕ
-lineAfter form line number r = cond (eqb (eventNumber form line number r) 0) (lineIn (lineOf (stateIn form) r)) line
-
--- a datagram is the event that it brings, a header or a block, after its own numbers; one that is refused brings none
+-- a datagram is the event that it brings, a header or a block; one that is refused brings none
 unfoldable pub carriedBy : Kind → List ℕ → Record
 carriedBy Header os = act (event (header os))
 carriedBy Block os = act (event (block os))
 carriedBy Other os = none
 
-unfoldable pub carried : List ℕ → Record
-carried d = carriedBy (arrivalOf d .kind) (arrivalOf d .octets)
+unfoldable pub recordAsked : Asked → Record
+recordAsked (an-event e) = act (event e)
+recordAsked (a-datagram d) = carriedBy (arrivalOf d .kind) (arrivalOf d .octets)
+
+-- what is answered, and the state after it
+unfoldable pub lineAsked : List ℕ → Asked → Line
+lineAsked form a = lineOf (stateIn form) (recordAsked a)
+
+unfoldable pub stateAsked : List ℕ → Asked → State
+stateAsked form a = afterRecord (stateIn form) (recordAsked a)
+
+-- the order of checks: 1 for every size, the line's, the form's and that of what is asked; then the form's 17 and 18; then a datagram's own
+-- number, and the answer's
+unfoldable pub eventNumber : List ℕ → List ℕ → Asked → ℕ
+eventNumber form line a =
+    firstFailed ((eqb (length line) lineSize, 1) ∷ (eqb (length form) (2 * storedBlock), 1) ∷ (not (eqb (numberBefore a) 1), 1)
+    ∷ (eqb (formNumber form) 0, formNumber form) ∷ (eqb (numberBefore a) 0, numberBefore a)
+    ∷ (eqb (lineNumber (lineAsked form a)) 0, lineNumber (lineAsked form a)) ∷ [])
+
+-- the form and the line after it
+unfoldable pub formAfter : List ℕ → ℕ → ℕ → List ℕ → Asked → List ℕ
+formAfter form s0 s1 line a = cond (eqb (eventNumber form line a) 0) (savedForm (stateAsked form a) s0 s1) form
+
+unfoldable pub lineAfter : List ℕ → List ℕ → Asked → List ℕ
+lineAfter form line a = cond (eqb (eventNumber form line a) 0) (lineIn (lineAsked form a)) line

@@ -3,17 +3,15 @@ ghost use mathlib.Core.Path.{_≡_};
 ghost use Prim.Native.Nat.{_*_, _^_, _<_};
 ghost use lib.ListN.{length, replicate};
 ghost use Rattle.addresses.specs.Octets.{addressAt};
-ghost use Rattle.datagrams.specs.Datagrams.{datagramNumber};
 ghost use Rattle.history.specs.History.{header, block, ended};
-ghost use Rattle.history.specs.Run.{event};
 ghost use Rattle.history.specs.Claims.{Octets};
-ghost use Rattle.logs.specs.Log.{act, recordOf, lineSize, stateOf};
+ghost use Rattle.logs.specs.Log.{recordOf, lineSize, stateOf};
 ghost use Rattle.receiver_state.specs.Receiver.{storeSize, freshReceiver};
 ghost use Rattle.stored.specs.Stored.{storedBlock, restored, afterRestore};
 ghost use Rattle.stored.specs.Claims.{Savable};
-ghost use Rattle.forms.specs.Forms.{freshNumber, afterFresh, eventNumber, formAfter, lineAfter, carried};
+ghost use Rattle.forms.specs.Forms.{freshNumber, afterFresh, an-event, a-datagram, eventNumber, formAfter, lineAfter};
 ghost use Rattle.forms.specs.Claims.{FormClaim};
-ghost use Rattle.forms.specs.Parts.{AnEvent, Answered, kindNumber};
+ghost use Rattle.forms.specs.Parts.{AnEvent, Answered, ActsAs, sizeNumber, kindNumber};
 use addresses::RadioAddress;
 use bursts::burst::Kind;
 use logs::recording::LINE;
@@ -91,7 +89,7 @@ fn act_on(
     0
 }
 
-// An event on a form: the line's size, the form's numbers, then the number given, then the answer's.
+// What is asked of a form: every size, the form's numbers, then the number given, then the answer's.
 fn on_record(
     form: &mut [u8],
     s0: u8,
@@ -102,11 +100,15 @@ fn on_record(
     line: &mut [u8],
 ) -> u8
     requires { ⌜ (number ≡ 0 → AnEvent kind (now octets)) ⌝ }
-    ensures { λ r. ⌜ (r ≡ eventNumber (now (form .entry)) (now (line .entry)) number (recordOf kind (now (octets .entry))))
-        × (now (form .exit) ≡ formAfter (now (form .entry)) s0 s1 (now (line .entry)) number (recordOf kind (now (octets .entry))))
-        × (now (line .exit) ≡ lineAfter (now (form .entry)) (now (line .entry)) number (recordOf kind (now (octets .entry)))) ⌝ }
+    ensures { λ r. ⌜ ActsAs number kind (now (octets .entry)) s0 s1 (now (form .entry)) (now (line .entry)) r (now (form .exit)) (now (line .exit)) ⌝ }
 {
     if line.len() != LINE {
+        return 1;
+    }
+    if form.len() != FORM {
+        return 1;
+    }
+    if number == 1 {
         return 1;
     }
     let mut store = [0u8; STORE];
@@ -121,30 +123,40 @@ fn on_record(
     act_on(form, s0, s1, rx, &mut store, kind, octets, line)
 }
 
+// 1 for a header or a block of another size.
+fn size_number(octets: &[u8]) -> u8
+    ensures { λ r. ⌜ r ≡ sizeNumber (now (octets .entry)) ⌝ }
+{
+    if octets.len() != 12 {
+        return 1;
+    }
+    0
+}
+
 // A header's octets, on a form: 0, or the number of the refusal. The line gets what is answered, and the form is that of the receiver
 // after the event, with a stamp of two octets.
 pub fn on_header(form: &mut [u8], s0: u8, s1: u8, octets: &[u8], line: &mut [u8]) -> u8
-    ensures { λ r. ⌜ (r ≡ eventNumber (now (form .entry)) (now (line .entry)) 0 (act (event (header (now (octets .entry))))))
-        × (now (form .exit) ≡ formAfter (now (form .entry)) s0 s1 (now (line .entry)) 0 (act (event (header (now (octets .entry))))))
-        × (now (line .exit) ≡ lineAfter (now (form .entry)) (now (line .entry)) 0 (act (event (header (now (octets .entry)))))) ⌝ }
+    ensures { λ r. ⌜ (r ≡ eventNumber (now (form .entry)) (now (line .entry)) (an-event (header (now (octets .entry)))))
+        × (now (form .exit) ≡ formAfter (now (form .entry)) s0 s1 (now (line .entry)) (an-event (header (now (octets .entry)))))
+        × (now (line .exit) ≡ lineAfter (now (form .entry)) (now (line .entry)) (an-event (header (now (octets .entry))))) ⌝ }
 {
-    on_record(form, s0, s1, 0, HEADER, octets, line)
+    on_record(form, s0, s1, size_number(octets), HEADER, octets, line)
 }
 
 // A block's octets, on a form.
 pub fn on_block(form: &mut [u8], s0: u8, s1: u8, octets: &[u8], line: &mut [u8]) -> u8
-    ensures { λ r. ⌜ (r ≡ eventNumber (now (form .entry)) (now (line .entry)) 0 (act (event (block (now (octets .entry))))))
-        × (now (form .exit) ≡ formAfter (now (form .entry)) s0 s1 (now (line .entry)) 0 (act (event (block (now (octets .entry))))))
-        × (now (line .exit) ≡ lineAfter (now (form .entry)) (now (line .entry)) 0 (act (event (block (now (octets .entry)))))) ⌝ }
+    ensures { λ r. ⌜ (r ≡ eventNumber (now (form .entry)) (now (line .entry)) (an-event (block (now (octets .entry)))))
+        × (now (form .exit) ≡ formAfter (now (form .entry)) s0 s1 (now (line .entry)) (an-event (block (now (octets .entry)))))
+        × (now (line .exit) ≡ lineAfter (now (form .entry)) (now (line .entry)) (an-event (block (now (octets .entry))))) ⌝ }
 {
-    on_record(form, s0, s1, 0, BLOCK, octets, line)
+    on_record(form, s0, s1, size_number(octets), BLOCK, octets, line)
 }
 
 // An end of attempt, on a form.
 pub fn on_end(form: &mut [u8], s0: u8, s1: u8, line: &mut [u8]) -> u8
-    ensures { λ r. ⌜ (r ≡ eventNumber (now (form .entry)) (now (line .entry)) 0 (act (event ended)))
-        × (now (form .exit) ≡ formAfter (now (form .entry)) s0 s1 (now (line .entry)) 0 (act (event ended)))
-        × (now (line .exit) ≡ lineAfter (now (form .entry)) (now (line .entry)) 0 (act (event ended))) ⌝ }
+    ensures { λ r. ⌜ (r ≡ eventNumber (now (form .entry)) (now (line .entry)) (an-event ended))
+        × (now (form .exit) ≡ formAfter (now (form .entry)) s0 s1 (now (line .entry)) (an-event ended))
+        × (now (line .exit) ≡ lineAfter (now (form .entry)) (now (line .entry)) (an-event ended)) ⌝ }
 {
     on_record(form, s0, s1, 0, END, b"", line)
 }
@@ -162,11 +174,9 @@ fn record_kind(kind: Kind) -> u8
 
 // A datagram, on a form: the header or the block that it carries, after its own numbers.
 pub fn on_datagram(form: &mut [u8], s0: u8, s1: u8, datagram: &[u8], line: &mut [u8]) -> u8
-    ensures { λ r. ⌜ (r ≡ eventNumber (now (form .entry)) (now (line .entry)) (datagramNumber (now (datagram .entry))) (carried (now (datagram .entry))))
-        × (now (form .exit)
-        ≡ formAfter (now (form .entry)) s0 s1 (now (line .entry)) (datagramNumber (now (datagram .entry))) (carried (now (datagram .entry))))
-        × (now (line .exit)
-        ≡ lineAfter (now (form .entry)) (now (line .entry)) (datagramNumber (now (datagram .entry))) (carried (now (datagram .entry)))) ⌝ }
+    ensures { λ r. ⌜ (r ≡ eventNumber (now (form .entry)) (now (line .entry)) (a-datagram (now (datagram .entry))))
+        × (now (form .exit) ≡ formAfter (now (form .entry)) s0 s1 (now (line .entry)) (a-datagram (now (datagram .entry))))
+        × (now (line .exit) ≡ lineAfter (now (form .entry)) (now (line .entry)) (a-datagram (now (datagram .entry)))) ⌝ }
 {
     let brought = reception::arrival_of(datagram);
     let number = brought.number;

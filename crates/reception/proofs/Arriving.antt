@@ -36,10 +36,16 @@ arrival-is d x is k e = rw (e, is, datagrams .numbered d)
 module _ (rx : Receiver) (store d : List ℕ) where
   -- what is received and left, and the claim
   abbrev pub Led : Received → List ℕ → Type 0
-  Led r next = (r ≡ onDatagram rx store d .received) × (next ≡ onDatagram rx store d .store) × Arrives rx store d
+  Led r next = (r ≡ onDatagram rx store d .received) × (next ≡ onDatagram rx store d .store) × Arrives rx store d r next
 
   led : (l : DatagramLeft) → l ≡ onDatagram rx store d → Led (l .received) (l .store)
-  led l e = (ap (λ (x : DatagramLeft). x .received) e, ap (λ (x : DatagramLeft). x .store) e, claims .datagram rx store d)
+  led l e =
+      let a : Arrives rx store d (l .received) (l .store) = rw e (claims .datagram rx store d) in
+      (ap (λ (x : DatagramLeft). x .received) e, ap (λ (x : DatagramLeft). x .store) e, a)
+
+  -- the same of a result that is known by another name
+  pub led-as : (r s : Received) (next : List ℕ) → r ≡ s → Led s next → Led r next
+  led-as r s next e l = rw e l
 
   refused : (n : ℕ) → n ≢ 0 → arrivedNumber rx store d ≡ n → Led (withAnswer rx (Refused n)) store
   unfolding onDatagram

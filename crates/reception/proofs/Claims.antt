@@ -57,18 +57,18 @@ module _ (rx : Receiver) (store d : List ℕ) where
     good : readDatagram d .number ≡ 0
     good = datagrams .numbered d ∙ read e
 
-    arrives : Arrives rx store d
+    arrives : Arrives rx store d (onDatagram rx store d .received) (onDatagram rx store d .store)
     unfolding onDatagram passedOn arrivalOf kindOf
     arrives =
-        either (eqb (readDatagram d .datatype) 6) (λ t. a-header good (eqb-true (readDatagram d .datatype) 6 t) (rw (e, t)))
+        either (eqb (readDatagram d .datatype) 6) (λ t. a-header good (eqb-true (readDatagram d .datatype) 6 t) (rw (e, t)) (rw (e, t)))
         (λ t. let s = seven (readDatagram d .datatype) (brings d (read e)) t in
-        a-block good s (rw (e, t, eq-eqb (readDatagram d .datatype) 7 s)))
+        let is = eq-eqb (readDatagram d .datatype) 7 s in a-block good s (rw (e, t, is)) (rw (e, t, is)))
 
-  datagram : Arrives rx store d
+  datagram : Arrives rx store d (onDatagram rx store d .received) (onDatagram rx store d .store)
   unfolding onDatagram
   datagram =
       either (eqb (arrivedNumber rx store d) 0) (λ t. arrives (eqb-true (arrivedNumber rx store d) 0 t))
-      (λ t. not-taken (arrivedNumber rx store d) (omega (arith, eqb-false (arrivedNumber rx store d) 0 t)) small (rw t))
+      (λ t. not-taken (arrivedNumber rx store d) (omega (arith, eqb-false (arrivedNumber rx store d) 0 t)) small (rw t) (rw t))
 
 pub claims : ReceptionClaims
 claims = record { datagram = datagram }

@@ -1,2 +1,4 @@
 pub mod Claims
 pub mod Arriving
+pub mod CarriedOctets
+pub mod Rule

@@ -1,2 +1,3 @@
 pub mod Reception
+pub mod Rule
 pub mod Claims

@@ -66,7 +66,7 @@ fn by_receiver(step: Step) -> Received
 pub fn on_datagram(rx: Receiver, store: &mut [u8], datagram: &[u8]) -> Received
     ensures { λ r. ⌜ (r ≡ onDatagram rx (now (store .entry)) (now (datagram .entry)) .received)
         × (now (store .exit) ≡ onDatagram rx (now (store .entry)) (now (datagram .entry)) .store)
-        × Arrives rx (now (store .entry)) (now (datagram .entry)) ⌝ }
+        × Arrives rx (now (store .entry)) (now (datagram .entry)) r (now (store .exit)) ⌝ }
 {
     if !receiver_state::is_good(rx) {
         return refused(rx, 1);

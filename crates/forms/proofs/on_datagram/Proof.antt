@@ -1,6 +1,7 @@
 -- `forms::on_datagram` meets its contract.
 -- Assumes nothing.
-use Rattle.forms.proofs.FormEvents.{brought-number, brought-record, brought-event, outcome-as}
+use Rattle.forms.specs.Forms.{a-datagram}
+use Rattle.forms.proofs.FormEvents.{brought-number, brought-record, brought-event}
 use borrow.Author.Needs.{needs}
 use Rattle.forms.proofs.on_datagram.Statement.{statement}
 use Rattle.forms.proofs.on_datagram.Tie as tie
@@ -31,8 +32,8 @@ returns c =
     let d = a .datagram .now in
     let g = c .before .before .before .before .before .before .before .before .before .before .arrival-of in
     let k = c .before .before .before .before .before .before .before .record-kind in
-    outcome-as (a .form .now) (a .s0) (a .s1) (a .line .now) _ _ _ _ _ _ _ (brought-number d (g .result) (g .ensures) (k .result) (k .ensures))
-    (brought-record d (g .result) (g .ensures) (k .result) (k .ensures)) (c .before .before .before .before .on-record .ensures)
+    c .before .before .before .before .on-record .ensures (a-datagram d) (brought-number d (g .result) (g .ensures) (k .result) (k .ensures))
+    (brought-record d (g .result) (g .ensures) (k .result) (k .ensures))
 
 pub on-datagram-spec : {M : Type 1} → statement M
 on-datagram-spec =

@@ -1,7 +1,6 @@
 -- `forms::on_end` meets its contract.
 -- Assumes nothing.
-use mathlib.Core.Path.{refl}
-use Rattle.forms.proofs.FormEvents.{end-is, outcome-as}
+use Rattle.forms.proofs.FormEvents.{end-acts}
 use borrow.Author.Needs.{needs}
 use Rattle.forms.proofs.on_end.Statement.{statement}
 use Rattle.forms.proofs.on_end.Tie as tie
@@ -19,8 +18,7 @@ same-length-2 : tie.Need-same-length-2
 same-length-2 c = search needs
 
 returns : tie.Need-returns
-returns c = let a = c .before .before .before .before .before .before .before .before .before .before .args in
-    outcome-as (a .form .now) (a .s0) (a .s1) (a .line .now) 0 0 _ _ _ _ _ refl end-is (c .before .before .before .before .on-record .ensures)
+returns c = end-acts _ _ _ _ _ _ _ (c .before .before .before .before .on-record .ensures)
 
 pub on-end-spec : {M : Type 1} → statement M
 on-end-spec =

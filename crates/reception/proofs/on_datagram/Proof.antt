@@ -3,7 +3,7 @@
 use mathlib.Core.Path.{sym, _∙_}
 use borrow.Author.Needs.{needs}
 use borrow.Author.Tests.{not-true, not-false}
-use Rattle.reception.proofs.Arriving.{not-good, store-not-good, not-taken, header-taken, block-taken, other-refused}
+use Rattle.reception.proofs.Arriving.{led-as, not-good, store-not-good, not-taken, header-taken, block-taken, other-refused}
 use Rattle.reception.proofs.on_datagram.Statement.{statement}
 use Rattle.reception.proofs.on_datagram.Tie as tie
 
@@ -17,7 +17,7 @@ returns : tie.Need-returns
 returns c =
     let a = c .before .before .before .before .before .args in
     let l = not-good (a .rx) (a .store .now) (a .datagram .now) (sym (c .before .before .is-good .ensures) ∙ not-true _ (c .before .if1 .taken)) in
-    (c .refused .ensures ∙ l .0, l .1, l .2)
+    led-as (a .rx) (a .store .now) (a .datagram .now) _ _ _ (c .refused .ensures) l
 
 refused-requires-2 : tie.Need-refused-requires-2
 refused-requires-2 c κs = search needs
@@ -27,7 +27,7 @@ returns-2 c =
     let b = c .before .before in
     let a = b .before .before .before .before .args in
     let l = store-not-good (a .rx) (a .store .now) (a .datagram .now) (sym (b .before .is-good .ensures) ∙ not-false _ (b .if1 .left)) (c .before .if2 .taken) in
-    (c .refused2 .ensures ∙ l .0, l .1, l .2)
+    led-as (a .rx) (a .store .now) (a .datagram .now) _ _ _ (c .refused2 .ensures) l
 
 arrival-of-requires : tie.Need-arrival-of-requires
 arrival-of-requires c κs = search needs
@@ -42,7 +42,7 @@ returns-3 c =
     let a = b .before .before .before .before .args in
     let good = sym (b .before .is-good .ensures) ∙ not-false _ (b .if1 .left) in
     let l = not-taken (a .rx) (a .store .now) (a .datagram .now) good (d .before .if2 .left) (d .arrival-of .result) (d .arrival-of .ensures) (c .before .if3 .taken) in
-    (c .refused3 .ensures ∙ l .0, l .1, l .2)
+    led-as (a .rx) (a .store .now) (a .datagram .now) _ _ _ (c .refused3 .ensures) l
 
 enum-told : tie.Need-enum-told
 enum-told c = search needs
@@ -81,7 +81,7 @@ returns-4 c =
     let a = b .before .before .before .before .args in
     let good = sym (b .before .is-good .ensures) ∙ not-false _ (b .if1 .left) in
     let l = header-taken (a .rx) (a .store .now) (a .datagram .now) good (d .before .if2 .left) (d .arrival-of .result) (d .arrival-of .ensures) (c .before .before .before .before .before .before .if3 .left) (c .before .before .before .enum-told .given .1) _ (c .before .on-header .ensures .0) in
-    (c .by-receiver .ensures ∙ l .0, l .1, l .2)
+    led-as (a .rx) (a .store .now) (a .datagram .now) _ _ _ (c .by-receiver .ensures) l
 
 same-length : tie.Need-same-length
 same-length c = search needs
@@ -94,7 +94,7 @@ returns-5 c =
     let good = sym (b .before .is-good .ensures) ∙ not-false _ (b .if1 .left) in
     let k = c .before .before .before .on-block in
     let l = block-taken (a .rx) (a .store .now) (a .datagram .now) good (d .before .if2 .left) (d .arrival-of .result) (d .arrival-of .ensures) (c .before .before .before .before .before .before .before .before .before .if3 .left) (c .before .before .before .before .before .before .enum-told2 .given .1) _ _ (k .ensures .0) (k .ensures .1) in
-    (c .by-receiver2 .ensures ∙ l .0, l .1, l .2)
+    led-as (a .rx) (a .store .now) (a .datagram .now) _ _ _ (c .by-receiver2 .ensures) l
 
 returns-6 : tie.Need-returns-6
 returns-6 c =
@@ -103,7 +103,7 @@ returns-6 c =
     let a = b .before .before .before .before .args in
     let good = sym (b .before .is-good .ensures) ∙ not-false _ (b .if1 .left) in
     let l = other-refused (a .rx) (a .store .now) (a .datagram .now) good (d .before .if2 .left) (d .arrival-of .result) (d .arrival-of .ensures) (c .before .before .before .before .if3 .left) (c .before .enum-told3 .given .1) in
-    (c .refused4 .ensures ∙ l .0, l .1, l .2)
+    led-as (a .rx) (a .store .now) (a .datagram .now) _ _ _ (c .refused4 .ensures) l
 
 pub on-datagram-spec : {M : Type 1} → statement M
 on-datagram-spec =
