@@ -83,14 +83,6 @@ module _ (m : List ℕ) (d : Delivery) (store : List ℕ) where
     no-header h =
         refusal 16 (λ e. omega arith) (rw (eq-eqb (length store) storeSize room, ne-eqb (fullHeader (length m) d .number) 0 h))
 
-    pub loops-back : fullHeader (length m) d .number ≡ 0 → (a : Answer) (store′ : List ℕ)
-        → (a ≡ Message (length m)) × (store′ ≡ over store 0 (laidOut m)) → LoopsBack m d store a store′
-    unfolding loopNumber firstFailed
-    loops-back h a store′ t = record {
-      handed-on = λ z. t;
-      refused = λ z. absurd (z (rw (eq-eqb (length store) storeSize room, eq-eqb (fullHeader (length m) d .number) 0 h)));
-    }
-
 -- ---- the length of a message that is handed on
 
 -- n for every other answer
@@ -149,12 +141,15 @@ pub record Looping (m store₀ : List ℕ) (n : ℕ) (rx : Receiver) (store : Li
   pub done : n ≡ blocksOf (length m) → a ≡ Message (length m)
 
 -- all are given
-pub looped : (m store₀ : List ℕ) (n : ℕ) (rx : Receiver) (store : List ℕ) (a : Answer) → Looping m store₀ n rx store a → n ≡ blocksOf (length m)
-    → (a ≡ Message (length m)) × (store ≡ over store₀ 0 (laidOut m))
-unfolding over
-looped m store₀ n rx store a l e =
+pub loops-back : (m : List ℕ) (d : Delivery) (store₀ : List ℕ) → fullHeader (length m) d .number ≡ 0
+    → (n : ℕ) (rx : Receiver) (store : List ℕ) (a : Answer) → Looping m store₀ n rx store a → n ≡ blocksOf (length m) → LoopsBack m d store₀ a store
+unfolding loopNumber firstFailed over
+loops-back m d store₀ h n rx store a l e =
     let is : joined (blockData m) n ≡ laidOut m = ap (joined (blockData m)) e ∙ messages .blocks-joined m in
-    (l .done e, rw zero-add (subst (λ (p : List ℕ). Grown p store₀ store) is (l .written)))
+    record {
+      handed-on = λ z. (l .done e, rw zero-add (subst (λ (p : List ℕ). Grown p store₀ store) is (l .written)));
+      refused = λ z. absurd (z (rw (eq-eqb (length store₀) storeSize (l .room₀), eq-eqb (fullHeader (length m) d .number) 0 h)));
+    }
 
 pub size-blocks : (n : ℕ) (s : Size) → n ≤ mostOctets → s ≡ sizeOf n → s .blocks ≡ blocksOf n
 size-blocks n s short e = ap (λ (x : Size). x .blocks) (e ∙ messages .sized n short)

@@ -6,7 +6,7 @@ use native.Mathlib.Omega.{arith}
 use lib.ListN.{length}
 use Rattle.packets.specs.declared.header.HeaderOctets.{HeaderOctets}
 use Rattle.history.proofs.Claims.{claims}
-use Rattle.history.proofs.LoopingBack.{header-taken, other-store, no-header, loops-back, Looping, looped, size-blocks, looping-none, looping-more}
+use Rattle.history.proofs.LoopingBack.{header-taken, other-store, no-header, Looping, loops-back, size-blocks, looping-none, looping-more}
 use borrow.Author.Needs.{needs}
 use Rattle.history.proofs.sending.loop_back.Statement.{statement}
 use Rattle.history.proofs.sending.loop_back.Tie as tie
@@ -87,8 +87,8 @@ returns-3 c = let a = c .before .before .before .before .before .before .before 
     let w = c .before .before .before .before .before .before .before .before .before .before .before .before .full-header in
     let size = c .before .before .before .size-of in
     let l = c .before .loop in (
-      loops-back (a .message .now) (a .d) (a .store .now) (c .before .before .before .before .before .before .before .before .before .before .before .before .before .if1 .left) (sym (number (w .ensures)) ∙ c .before .before .before .before .before .before .before .before .before .before .if2 .left) (l .last) (l .store)
-          (looped _ _ _ _ _ _ (l .inv) (omega (arith, c .loop-test .left, l .inv .most, size-blocks _ (size .result) (l .inv .short) (size .ensures)))),
+      loops-back (a .message .now) (a .d) (a .store .now) (sym (number (w .ensures)) ∙ c .before .before .before .before .before .before .before .before .before .before .if2 .left) _ _ _ _
+          (l .inv) (omega (arith, c .loop-test .left, l .inv .most, size-blocks _ (size .result) (l .inv .short) (size .ensures))),
       claims .delivered (a .message .now) (a .d),
     )
 
