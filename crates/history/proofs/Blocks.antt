@@ -33,7 +33,7 @@ use Rattle.history.proofs.Sound.{Sound, good-blocks, open-fields}
 use Rattle.history.proofs.Follows.{Follows, none-octets, agrees-empty, store-message, good}
 use Rattle.history.proofs.Steps.{Matches}
 
--- octets of a number that is not held are not looked at
+-- octets of a serial that is not held are not looked at
 unlooked : (phase : ℕ) (t : Transaction) (held : Bool) (x y b : List ℕ) → (held ≡ true → x ≡ y) → takenNumber phase t held x b ≡ takenNumber phase t held y b
 unlooked phase t true x y b h = rw (h refl)
 unlooked phase t false x y b h = unfold takenNumber takenTests in refl
@@ -48,15 +48,15 @@ valid-of p held x b e =
     let e3 = passed _ _ _ (e2 .1) in
     all-cons _ (e0 .0) (all-cons _ (e1 .0) (all-cons _ (e2 .0) (all-cons _ (e3 .0) all-nil)))
 
--- a valid block of a number not held is not refused
+-- a valid block of a serial not held is not refused
 new-taken : (p : History) (x b : List ℕ) → valid p b ≡ true → takenNumber (p .phase) (p .transaction) false x b ≡ 0
 unfolding takenNumber takenTests blockTests valid firstFailed
 new-taken p x b v = simp (all-at _ 0 v, all-at _ 1 v, all-at _ 2 v, all-at _ 3 v)
 
 module _ (own : RadioAddress) (s : State) (p : History) (m : Follows own s p) (b : List ℕ) where
-  number : blockRefusal (s .receiver) (s .store) b ≡ keptNumber p b
+  pub same-number : blockRefusal (s .receiver) (s .store) b ≡ keptNumber p b
   unfolding blockRefusal keptNumber
-  number =
+  same-number =
       rw (good own s p m, eq-eqb (length (s .store)) storeSize (m .room), m .agrees .flags (serialOf b), m .agrees .phase, m .agrees .transaction)
       (unlooked (p .phase) (p .transaction) (holds (p .kept) (serialOf b)) (blockAt (s .store) (serialOf b)) (heldData (p .kept) (serialOf b)) b
       (m .agrees .octets (serialOf b)))
@@ -70,7 +70,7 @@ module _ (own : RadioAddress) (s : State) (p : History) (m : Follows own s p) (b
   invalid-step v =
       let e : eqb (keptNumber p b) 0 ≡ false
       = ne-eqb (keptNumber p b) 0 (λ z. never (valid-of p (holds (p .kept) (serialOf b)) (heldData (p .kept) (serialOf b)) b z) v) in
-      rw number (simp (e, v) (record { follows = m; same = refl }))
+      rw same-number (simp (e, v) (record { follows = m; same = refl }))
 
   module _ (v : valid p b ≡ true) where
     opened : p .phase ≡ 1
@@ -85,7 +85,7 @@ module _ (own : RadioAddress) (s : State) (p : History) (m : Follows own s p) (b
     unfolding valid
     fields = open-fields p (m .sound) (all-at _ 2 v)
 
-    -- the number is held already: the kept block is behind the first of its number
+    -- the serial is held already: the kept block is behind the first of its serial
     module _ (had : holds (p .kept) (serialOf b) ≡ true) where
       same-held : holds (keeping p b) ≡ holds (p .kept)
       unfolding keeping
@@ -117,12 +117,12 @@ module _ (own : RadioAddress) (s : State) (p : History) (m : Follows own s p) (b
             places = m .places;
             flag-octets = m .flag-octets;
           } in
-          rw number (simp (m .agrees .flags (serialOf b), had, v, w)
+          rw same-number (simp (m .agrees .flags (serialOf b), had, v, w)
           (either (eqb (keptNumber p b) 0)
           (λ e. simp e (record { follows = next; same = refl }))
           (λ e. simp e (record { follows = next; same = refl }))))
 
-    -- the number is new: the block is put into the store and flagged
+    -- the serial is new: the block is put into the store and flagged
     module _ (new : holds (p .kept) (serialOf b) ≡ false) where
       abbrev nextStore : List ℕ
       nextStore = putBlock (s .store) (serialOf b) (dataOf b)
@@ -226,7 +226,7 @@ module _ (own : RadioAddress) (s : State) (p : History) (m : Follows own s p) (b
       new-step : Sound (afterBlock p b) → Done
       unfolding afterEvent answerTo after saidTo onBlock taken afterBlock blockSaid said
       new-step sound =
-          rw (number, not-refused, m .agrees .flags (serialOf b), new, all-new, v)
+          rw (same-number, not-refused, m .agrees .flags (serialOf b), new, all-new, v)
           (either (whole (p .transaction) (keeping p b))
           (λ w. either (messageGood (messageOf (p .transaction) (keeping p b)))
           (λ g. rw (w, completed-good w g, g) (record { follows = follows-new 2 (simp (v, w, g) at sound); same = ap message (handed w) }))

@@ -116,7 +116,7 @@ module _ (m : List ℕ) (d : Delivery) (short : length m ≤ mostOctets) (k : �
   check-good : blockGood b ≡ true
   check-good = written-good k (blockData m k) narrow
 
-  kept-is : _≡_ {A = Kept} (record { serial = serialOf b; octets = dataOf b }) (record { serial = k; octets = blockData m k })
+  pub kept-is : _≡_ {A = Kept} (record { serial = serialOf b; octets = dataOf b }) (record { serial = k; octets = blockData m k })
   unfolding serialOf dataOf
   kept-is =
       ap (λ (r : Block). record { serial = r .serial; octets = r .octets })
@@ -129,10 +129,10 @@ module _ (m : List ℕ) (d : Delivery) (short : length m ≤ mostOctets) (k : �
   unfolding keeping before keptTo
   keeping-is = ap (λ (j : Kept). keptTo m k ++ j ∷ []) kept-is
 
-  new : holds (keptTo m k) (serialOf b) ≡ false
+  pub new : holds (keptTo m k) (serialOf b) ≡ false
   new = rw serial (none-from m k k (omega arith))
 
-  number-zero : keptNumber (before m d k) b ≡ 0
+  pub number-zero : keptNumber (before m d k) b ≡ 0
   unfolding keptNumber takenNumber takenTests before sent blockTests firstFailed
   number-zero = rw (eq-eqb (length b) 12 twelve, check-good, new, serial, lt-ltb k (blocksOf (length m)) low)
 

@@ -26,14 +26,14 @@ unfolding holds
 holds-more [] k n = refl
 holds-more (j ∷ ks) k n = rw (holds-more ks k n) (either-order (eqb (j .serial) n) (eqb (k .serial) n) (holds ks n))
 
--- a later block of a held number changes nothing
+-- a later block of a held serial changes nothing
 pub first-stays : (ks : List Kept) (k : Kept) (n : ℕ) → holds ks n ≡ true → heldData (ks ++ (k ∷ [])) n ≡ heldData ks n
 unfolding holds heldData
 first-stays [] k n e = never e refl
 first-stays (j ∷ ks) k n e =
     either (eqb (j .serial) n) (λ t. simp t) (λ t. simp t (first-stays ks k n (simp t at e)))
 
--- a block of a number not yet held
+-- a block of a serial not yet held
 pub new-data : (ks : List Kept) (k : Kept) (n : ℕ) → holds ks n ≡ false → eqb (k .serial) n ≡ true → heldData (ks ++ (k ∷ [])) n ≡ k .octets
 unfolding holds heldData
 new-data [] k n e t = simp t
@@ -45,7 +45,7 @@ unfolding whole
 whole-at t ks e n l =
     either (holds ks n) (λ h. h) (λ h. absurd (subst T h (every-at (t .blocks) (holds ks) (subst T (sym e) tt) n l)))
 
--- lists that are equal at each number below k, joined
+-- lists that are equal at each place below k, joined
 pub joined-ext : (f g : ℕ → List ℕ) (k : ℕ) → ((n : ℕ) → n < k → f n ≡ g n) → joined f k ≡ joined g k
 unfolding joined
 joined-ext f g zero h = refl

@@ -30,7 +30,7 @@ Possible (restart s0 s1 store ∷ rest) = (length store ≡ storeSize) × Possib
 abbrev pub freshState : RadioAddress → List ℕ → State
 freshState own store = record { receiver = freshReceiver own; store = store }
 
--- transaction and phase are the history's, the flags name exactly the held numbers, and the store has each held block's octets
+-- transaction and phase are the history's, the flags name exactly the held serials, and the store has each held block's octets
 pub record Agrees (own : RadioAddress) (s : State) (p : History) : Type 0 where
   pub address : s .receiver .own ≡ own
   pub phase : s .receiver .phase ≡ p .phase

@@ -1,4 +1,5 @@
 -- The history rule of document 01: a transaction and its kept blocks, from the own address and the events alone.
+-- Document 01's number of a block is its serial here; a number is one of the table of refusals, 0 for none.
 -- Assumes nothing.
 use mathlib.Core.Bool.{Bool, true, false, cond, not}
 use mathlib.Core.List.{List, [], _∷_, _++_}
@@ -24,7 +25,7 @@ pub record Kept : Type 0 where
   pub serial : ℕ
   pub octets : List ℕ
 
--- phase 0 no transaction, 1 open, 2 complete; the kept blocks, each behind those kept before
+-- phase 0 no transaction, 1 open, 2 complete; the transaction; its kept blocks, each behind those kept before
 pub record History : Type 0 where
   pub phase : ℕ
   pub transaction : Transaction
@@ -46,16 +47,18 @@ heldData (k ∷ ks) n = cond (eqb (k .serial) n) (k .octets) (heldData ks n)
 
 -- ---- header
 
--- a full header that no number is given for opens a transaction, unless it is the present one's
+-- a header that gets no number (it has 12 octets, and none of 8 to 11 is true of it) opens a transaction if it is full, unless source, SAP,
+-- N(S), pad and B are the present one's
 unfoldable pub opens : RadioAddress → History → List ℕ → Bool
 opens own p h = all (eqb (heardNumber own h) 0 ∷ isFull h ∷ not (repeats (p .phase) (p .transaction) h) ∷ [])
 
+-- it opens with these five and no block kept; any other header: no change
 unfoldable pub afterHeader : RadioAddress → History → List ℕ → History
 afterHeader own p h = cond (opens own p h) (record { phase = 1; transaction = transactionOf h; kept = [] }) p
 
 -- ---- block
 
--- valid: 12 octets, its check good, the transaction open, its number below B
+-- valid: 12 octets, its check good, the transaction open, its serial below B
 unfoldable pub valid : History → List ℕ → Bool
 valid p b = all (eqb (length b) 12 ∷ blockGood b ∷ eqb (p .phase) 1 ∷ ltb (serialOf b) (p .transaction .blocks) ∷ [])
 
@@ -63,14 +66,16 @@ valid p b = all (eqb (length b) 12 ∷ blockGood b ∷ eqb (p .phase) 1 ∷ ltb 
 unfoldable pub keeping : History → List ℕ → List Kept
 keeping p b = p .kept ++ (record { serial = serialOf b; octets = dataOf b } ∷ [])
 
--- every number below B is held: the octets by number, and their message check
+-- every serial below B is held
 unfoldable pub whole : Transaction → List Kept → Bool
 whole t ks = every (t .blocks) (holds ks)
 
+-- the message is their octets by serial
 unfoldable pub messageOf : Transaction → List Kept → List ℕ
 messageOf t ks = joined (heldData ks) (t .blocks)
 
--- good: the transaction is complete; bad: no block is kept any more, and the transaction stays open
+-- a valid block by which every serial below B becomes held completes the message. Message check good: the transaction is complete; bad: no
+-- block is kept any more, and the transaction stays open. A block that is not valid: no change
 unfoldable pub afterBlock : History → List ℕ → History
 afterBlock p b =
     let t = p .transaction in
@@ -86,22 +91,25 @@ after own p (header h) = afterHeader own p h
 after own p (block b) = afterBlock p b
 after own p ended = p
 
--- ---- answers: those of the tables and of the receiver's rules, with this transaction and these held blocks
+-- ---- answers: those of the table and of the receiver's rules, with this transaction and these held blocks
 
+-- a header: refused with the number that it gets, or a repeat of the present transaction, or opened; 12 for a partial one that is no repeat
 unfoldable pub headerSaid : RadioAddress → History → List ℕ → Said
 headerSaid own p h =
     cond (eqb (heardNumber own h) 0)
     (cond (repeats (p .phase) (p .transaction) h) repeat (cond (isFull h) opened (refused 12)))
     (refused (heardNumber own h))
 
--- the number given for a block
+-- the number that a block gets, with this transaction and the held octets of its serial
 unfoldable pub keptNumber : History → List ℕ → ℕ
 keptNumber p b = takenNumber (p .phase) (p .transaction) (holds (p .kept) (serialOf b)) (heldData (p .kept) (serialOf b)) b
 
--- the message handed on is the first 10B - 4 - pad octets
+-- what is handed on: the message's first 10B - 4 - pad octets
 unfoldable pub handedOn : Transaction → List Kept → List ℕ
 handedOn t ks = take (blockSize * t .blocks - checkSize - t .pad) (messageOf t ks)
 
+-- a block: refused with the number that it gets, or a repeat where its serial is held, or stored; if by it every serial below B becomes
+-- held, the message handed on or "message bad"
 unfoldable pub blockSaid : History → List ℕ → Said
 blockSaid p b =
     let t = p .transaction in
@@ -111,12 +119,13 @@ blockSaid p b =
     (cond (whole t ks) (cond (messageGood (messageOf t ks)) (message (handedOn t ks)) bad) stored))
     (refused (keptNumber p b))
 
+-- an event; an end of attempt gets its response
 unfoldable pub saidTo : RadioAddress → History → Event → Said
 saidTo own p (header h) = headerSaid own p h
 saidTo own p (block b) = blockSaid p b
 saidTo own p ended = responseSaid (responseTo own (p .phase) (p .transaction) (holds (p .kept)))
 
--- ---- a list of events
+-- ---- a list of events: the history after it, and what is answered on the way
 
 unfoldable pub historyFrom : RadioAddress → History → List Event → History
 historyFrom own p [] = p

@@ -5,9 +5,10 @@ use mathlib.Core.List.{List, [], _∷_}
 use mathlib.Core.Logic.{_≢_}
 use Prim.Native.Nat.{ℕ}
 use lib.Dec.{eqb}
-use lib.ListN.{length, take}
+use lib.ListN.{length}
+use Rattle.foundation.specs.Octets.{over}
 use Rattle.foundation.specs.Order.{firstFailed}
-use Rattle.messages.specs.Messages.{fullHeader}
+use Rattle.messages.specs.Messages.{laidOut, fullHeader}
 use Rattle.messages.specs.declared.message.Delivery.{Delivery}
 use Rattle.receiver_state.specs.Receiver.{storeSize}
 use Rattle.receiver.specs.declared.event.Answer.{Answer}
@@ -17,7 +18,7 @@ use Rattle.receiver.specs.declared.event.Answer.the-variants.{Refused, Message}
 unfoldable pub loopNumber : List ℕ → Delivery → List ℕ → ℕ
 loopNumber m d store = firstFailed ((eqb (length store) storeSize, 1) ∷ (eqb (fullHeader (length m) d .number) 0, 16) ∷ [])
 
--- the message is handed on, and stands in front in the store; a refusal changes nothing
+-- the message is handed on; with its pad and its check it stands in front in the store, and what is behind stays. A refusal changes nothing
 pub record LoopsBack (m : List ℕ) (d : Delivery) (store : List ℕ) (a : Answer) (store′ : List ℕ) : Type 0 where
-  pub handed-on : loopNumber m d store ≡ 0 → (a ≡ Message (length m)) × (take (length m) store′ ≡ m)
+  pub handed-on : loopNumber m d store ≡ 0 → (a ≡ Message (length m)) × (store′ ≡ over store 0 (laidOut m))
   pub refused : loopNumber m d store ≢ 0 → (a ≡ Refused (loopNumber m d store)) × (store′ ≡ store)

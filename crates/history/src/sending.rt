@@ -6,8 +6,8 @@ use receiver::event::Answer;
 use receiver_state::STORE;
 
 // Writes a message, gives it whole and in order to a fresh receiver of its destination, and tells the answer to the last block. The message
-// then stands in front in the store. As the self-test of writer and receiver it also promises that restarts between the events change
-// nothing.
+// then stands in front in the store, its pad and its check behind it, and the rest of the store is as it was. As the self-test of writer and
+// receiver it also promises that restarts between the events change nothing.
 pub fn loop_back(message: &[u8], d: Delivery, store: &mut [u8]) -> Answer
     ensures { λ r. ⌜ LoopsBack (now (message .entry)) d (now (store .entry)) r (now (store .exit)) × Delivered (now (message .entry)) d ⌝ }
 {

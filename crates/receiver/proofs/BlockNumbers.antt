@@ -1,4 +1,4 @@
--- The number of a block that is read: by the first test that fails, what 0 says, and that it is the number of the block's octets.
+-- The number given for a block that is read: by the first test that fails, what 0 says, and that it is the number given for its octets.
 -- Assumes nothing.
 use mathlib.Core.Path.{_≡_, refl, sym, ap, _∙_}
 use mathlib.Core.Bool.{Bool, true, false, cond}

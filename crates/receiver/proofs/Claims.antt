@@ -1,6 +1,6 @@
 -- The claims of the receiver's events hold.
 -- Assumes nothing.
-use mathlib.Core.Path.{_≡_, ap}
+use mathlib.Core.Path.{_≡_, refl, sym, subst}
 use mathlib.Core.Bool.{Bool, true, false, cond}
 use mathlib.Core.List.{List}
 use Prim.Native.Nat.{ℕ, _*_, _-_}
@@ -25,18 +25,18 @@ apart e = absurd (omega arith)
 
 -- ---- refusals
 
-header-refused : (rx : Receiver) (h : List ℕ) → HeaderRefused rx h
+header-refused : (rx : Receiver) (h : List ℕ) → HeaderRefused rx (onHeader rx h)
 unfolding onHeader
 header-refused rx h n e = go (eqb (headerRefusal rx h) 0) (repeats (rx .phase) (rx .transaction) h) (isFull h) e
   where
     by : Bool → Bool → Bool → Step
     by a b c = cond a (cond b (answered rx Repeat) (cond c (answered (openedBy rx h) Opened) (answered rx (Refused 12)))) (answered rx (Refused (headerRefusal rx h)))
 
-    go : (a b c : Bool) → by a b c .answer ≡ Refused n → by a b c ≡ answered rx (Refused n)
-    go true true c e = apart (cc)
+    go : (a b c : Bool) → by a b c .answer ≡ Refused n → by a b c .receiver ≡ rx
+    go true true c e = refl
     go true false true e = apart (cc)
-    go true false false e = ap (answered rx) e
-    go false b c e = ap (answered rx) e
+    go true false false e = refl
+    go false b c e = refl
 
 -- a new block is not refused
 never-refused : (rx : Receiver) (store : List ℕ) (n : ℕ) → taken rx store .answer ≡ Refused n → ⊥
@@ -54,7 +54,7 @@ never-refused rx store n e = go (allHeld rx) (messageGood (take (blockSize * rx 
     go true false e = apart (cc)
     go false b e = apart (cc)
 
-block-refused : (rx : Receiver) (store b : List ℕ) → BlockRefused rx store b
+block-refused : (rx : Receiver) (store b : List ℕ) → BlockRefused rx store (onBlock rx store b .step) (onBlock rx store b .store)
 unfolding onBlock
 block-refused rx store b n e = go (eqb (blockRefusal rx store b) 0) (held rx (serialOf b)) e
   where
@@ -70,10 +70,20 @@ block-refused rx store b n e = go (eqb (blockRefusal rx store b) 0) (held rx (se
     by : Bool → Bool → BlockLeft
     by a h = cond a (cond h (kept Repeat) (record { step = taken with next; store = next })) (kept (Refused (blockRefusal rx store b)))
 
-    go : (a h : Bool) → by a h .step .answer ≡ Refused n → by a h ≡ kept (Refused n)
-    go true true e = apart (cc)
+    go : (a h : Bool) → by a h .step .answer ≡ Refused n → (by a h .step .receiver ≡ rx) × (by a h .store ≡ store)
+    go true true e = (refl, refl)
     go true false e = absurd (never-refused with next n e)
-    go false h e = ap kept e
+    go false h e = (refl, refl)
 
 pub claims : ReceiverClaims
 claims = record { header-refused = header-refused; block-refused = block-refused }
+
+-- ---- of what a function gives
+
+pub header-promise : (rx : Receiver) (h : List ℕ) (r : Step) → r ≡ onHeader rx h → (r ≡ onHeader rx h) × HeaderRefused rx r
+header-promise rx h r e = (e, subst (HeaderRefused rx) (sym e) (header-refused rx h))
+
+pub block-promise : (rx : Receiver) (store b : List ℕ) (r : Step) (store′ : List ℕ)
+    → r ≡ onBlock rx store b .step → store′ ≡ onBlock rx store b .store
+    → (r ≡ onBlock rx store b .step) × (store′ ≡ onBlock rx store b .store) × BlockRefused rx store r store′
+block-promise rx store b r store′ er es = (er, es, rw (er, es) (block-refused rx store b))

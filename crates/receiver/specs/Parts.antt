@@ -21,7 +21,7 @@ onHeard rx t full =
     cond (cond (eqb (rx .phase) 0) false (belongs (rx .transaction) t full)) (answered rx Repeat)
     (cond full (answered (record { own = rx .own; phase = 1; transaction = t; flags = noFlags }) Opened) (answered rx (Refused 12)))
 
--- the number of a block that is read
+-- the number given for a block that is read
 unfoldable pub numberWith : Receiver → List ℕ → Block → ℕ
 numberWith rx store b =
     cond (receiverGood rx)

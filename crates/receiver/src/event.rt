@@ -1,4 +1,4 @@
-// The events of a receiver: headers, blocks, ends of attempt, and datagrams that carry headers and blocks.
+// The events of a receiver: headers, blocks and ends of attempt.
 ghost use mathlib.Core.Path.{_≡_};
 ghost use Prim.Native.Nat.{_+_, _*_, _≤_};
 ghost use lib.ListN.{length};
@@ -86,7 +86,7 @@ fn heard(rx: Receiver, t: Transaction, full: bool) -> Step
 
 // The octets of a header.
 pub fn on_header(rx: Receiver, header: &[u8]) -> Step
-    ensures { λ r. ⌜ (r ≡ onHeader rx (now (header .entry))) × HeaderRefused rx (now (header .entry)) ⌝ }
+    ensures { λ r. ⌜ (r ≡ onHeader rx (now (header .entry))) × HeaderRefused rx r ⌝ }
 {
     if !receiver_state::is_good(rx) {
         return refused(rx, 1);
@@ -123,7 +123,7 @@ fn put_block(store: &mut [u8], n: usize, octets: [u8; BLOCK])
     foundation::octets::put(store, BLOCK * n, &octets);
 }
 
-// The number of a block that is read, 0 for none.
+// The number given for a block that is read, 0 for none.
 fn number_of(rx: Receiver, store: &[u8], block: Block) -> u8
     ensures { λ r. ⌜ r ≡ numberWith rx (now (store .entry)) block ⌝ }
 {
@@ -200,7 +200,7 @@ fn taken_block(rx: Receiver, store: &[u8]) -> Step
 pub fn on_block(rx: Receiver, store: &mut [u8], octets: &[u8]) -> Step
     ensures { λ r. ⌜ (r ≡ onBlock rx (now (store .entry)) (now (octets .entry)) .step)
         × (now (store .exit) ≡ onBlock rx (now (store .entry)) (now (octets .entry)) .store)
-        × BlockRefused rx (now (store .entry)) (now (octets .entry)) ⌝ }
+        × BlockRefused rx (now (store .entry)) r (now (store .exit)) ⌝ }
 {
     let block = packets::block::read(octets);
     let number = number_of(rx, store, block);

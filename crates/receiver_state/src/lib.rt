@@ -112,7 +112,7 @@ fn transaction_none(t: Transaction) -> bool
     t.blocks == 0
 }
 
-// Whether no block of this number or more is flagged.
+// Whether no block is flagged whose serial is `blocks` or more.
 fn none_from(flags: [u8; 8], blocks: usize) -> bool
     ensures { λ r. ⌜ r ≡ noneFrom blocks flags flagCount ⌝ }
 {

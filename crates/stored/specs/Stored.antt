@@ -104,7 +104,7 @@ receiverIn a = record {
 unfoldable pub storeIn : List ℕ → List ℕ → List ℕ
 storeIn a b = take firstPart (drop storeAt0 a) ++ take secondPart (drop storeAt1 b)
 
--- octets n from position `at` on are zero
+-- n octets from position `at` on are zero
 unfoldable pub zerosFrom : List ℕ → ℕ → ℕ → Bool
 zerosFrom os at n = every n (λ i. eqb (getD os (at + i) 0) 0)
 

@@ -6,7 +6,7 @@ use native.Mathlib.Omega.{arith}
 use lib.ListN.{length}
 use Rattle.packets.specs.declared.header.HeaderOctets.{HeaderOctets}
 use Rattle.history.proofs.Claims.{claims}
-use Rattle.history.proofs.LoopingBack.{header-taken, other-store, no-header, loops-back, Looping, size-blocks, looping-none, looping-more}
+use Rattle.history.proofs.LoopingBack.{header-taken, other-store, no-header, Looping, loops-back, size-blocks, looping-none, looping-more}
 use borrow.Author.Needs.{needs}
 use Rattle.history.proofs.sending.loop_back.Statement.{statement}
 use Rattle.history.proofs.sending.loop_back.Tie as tie
@@ -15,7 +15,7 @@ number : {a b : HeaderOctets} → a ≡ b → a .number ≡ b .number
 number e = ap (λ (o : HeaderOctets). o .number) e
 
 abbrev Inv-loop : tie.InvT-loop
-Inv-loop message store₀ rx₀ last₀ blocks n₀ store rx last n = Looping message n rx store last
+Inv-loop message store₀ rx₀ last₀ blocks n₀ store rx last n = Looping message store₀ n rx store last
 
 abbrev μ-loop : tie.MeasureT-loop
 μ-loop message store₀ rx₀ last₀ blocks n₀ store rx last n = blocks - n
@@ -76,7 +76,7 @@ loop-again c = let l = c .before .before .before .before .before .before .before
     let r = c .before .before .before .on-block in
     let some = c .before .before .before .before .before .before .before .before .loop-test .taken in
     let size = c .before .before .before .before .before .before .before .before .before .before .before .size-of in
-    looping-more _ (l .n) (l .rx) (l .store) (l .last) (l .inv) (omega (arith, size-blocks _ (size .result) (l .inv .short) (size .ensures)))
+    looping-more _ _ (l .n) (l .rx) (l .store) (l .last) (l .inv) (omega (arith, size-blocks _ (size .result) (l .inv .short) (size .ensures)))
     (w .result) (r .result) _ (w .ensures) (r .ensures .0) (r .ensures .1)
 
 same-length : tie.Need-same-length Inv-loop μ-loop
@@ -87,8 +87,8 @@ returns-3 c = let a = c .before .before .before .before .before .before .before 
     let w = c .before .before .before .before .before .before .before .before .before .before .before .before .full-header in
     let size = c .before .before .before .size-of in
     let l = c .before .loop in (
-      loops-back (a .message .now) (a .d) (a .store .now) (c .before .before .before .before .before .before .before .before .before .before .before .before .before .if1 .left) (sym (number (w .ensures)) ∙ c .before .before .before .before .before .before .before .before .before .before .if2 .left) (l .last) (l .store)
-          (l .inv .done (omega (arith, c .loop-test .left, l .inv .most, size-blocks _ (size .result) (l .inv .short) (size .ensures)))),
+      loops-back (a .message .now) (a .d) (a .store .now) (sym (number (w .ensures)) ∙ c .before .before .before .before .before .before .before .before .before .before .if2 .left) _ _ _ _
+          (l .inv) (omega (arith, c .loop-test .left, l .inv .most, size-blocks _ (size .result) (l .inv .short) (size .ensures))),
       claims .delivered (a .message .now) (a .d),
     )
 

@@ -5,7 +5,7 @@ use borrow.Author.Needs.{needs}
 use Rattle.receiver.specs.Events.{BlockLeft}
 use Rattle.receiver.proofs.BlockNumbers.{taken-of, open-fields, block-fits}
 use Rattle.receiver.proofs.OnBlock.{left-refused, left-repeat, left-new}
-use Rattle.receiver.proofs.Claims.{claims}
+use Rattle.receiver.proofs.Claims.{block-promise}
 use Rattle.receiver.proofs.event.on_block.Statement.{statement}
 use Rattle.receiver.proofs.event.on_block.Tie as tie
 
@@ -27,7 +27,7 @@ returns c =
     let x = c .before .before .before .before .read in
     let number = c .before .before .number-of in
     let e = left-refused (a .rx) (a .store .now) (a .octets .now) (x .result) (x .ensures) (number .result) (number .ensures) (c .before .if1 .taken) in
-    (c .refused .ensures ∙ ap (λ (l : BlockLeft). l .step) e, ap (λ (l : BlockLeft). l .store) e, claims .block-refused (a .rx) (a .store .now) (a .octets .now))
+    block-promise (a .rx) (a .store .now) (a .octets .now) _ _ (c .refused .ensures ∙ ap (λ (l : BlockLeft). l .step) e) (ap (λ (l : BlockLeft). l .store) e)
 
 cast-n : tie.Need-cast-n
 cast-n c = search needs
@@ -44,7 +44,7 @@ returns-2 c =
     let x = c .before .before .before .before .before .before .before .read in
     let number = c .before .before .before .before .before .number-of in
     let e = left-repeat (a .rx) (a .store .now) (a .octets .now) (x .result) (x .ensures) (number .result) (number .ensures) (c .before .before .before .before .if1 .left) (sym (c .before .is-set .ensures) ∙ c .if2 .taken) in
-    (ap (λ (l : BlockLeft). l .step) e, ap (λ (l : BlockLeft). l .store) e, claims .block-refused (a .rx) (a .store .now) (a .octets .now))
+    block-promise (a .rx) (a .store .now) (a .octets .now) _ _ (ap (λ (l : BlockLeft). l .step) e) (ap (λ (l : BlockLeft). l .store) e)
 
 put-block-requires : tie.Need-put-block-requires
 put-block-requires c κs =
@@ -76,7 +76,7 @@ returns-3 c =
     let e = left-new (a .rx) (a .store .now) (a .octets .now) (x .result) (x .ensures) (number .result) (number .ensures) (c .before .before .before .before .before .before .before .before .before .before .before .before .before .before .if1 .left) (sym (c .before .before .before .before .before .before .before .before .before .before .before .is-set .ensures) ∙ c .before .before .before .before .before .before .before .before .before .before .if2 .left) in
     let put = c .before .before .before .before .before .before .before .put-block .ensures in
     let step = rw (c .before .before .with .ensures, put) at (c .taken-block .ensures) in
-    (step ∙ ap (λ (l : BlockLeft). l .step) e, put ∙ ap (λ (l : BlockLeft). l .store) e, claims .block-refused (a .rx) (a .store .now) (a .octets .now))
+    block-promise (a .rx) (a .store .now) (a .octets .now) _ _ (step ∙ ap (λ (l : BlockLeft). l .step) e) (put ∙ ap (λ (l : BlockLeft). l .store) e)
 
 pub on-block-spec : {M : Type 1} → statement M
 on-block-spec =
