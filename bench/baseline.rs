@@ -11,7 +11,8 @@ mod second {
 }
 
 use receiver::{Codes, Given, Receiver};
-use std::io::{stdin, stdout, BufWriter, Read, Result, Write};
+use second::reference::programs::{run, Program};
+use std::io::{stderr, stdin, stdout, BufWriter, Read, Result, Write};
 
 fn decimal(mut n: u64, out: &mut Vec<u8>) {
     let at = out.len();
@@ -139,15 +140,20 @@ fn replay<C: Codes>() -> Result<()> {
     }
 }
 
+fn reference(program: Program) -> Result<()> {
+    run(program, 0, &mut stdin(), &mut stdout(), &mut stderr());
+    Ok(())
+}
+
 fn main() -> Result<()> {
     let arguments: Vec<String> = std::env::args().skip(1).collect();
     match (arguments[0].as_str(), arguments[1].as_str()) {
         ("gateway", "plain") => gateway::<plain::Plain>(),
         ("gateway", "fast") => gateway::<fast::Fast>(),
-        ("gateway", "reference") => second::reference::programs::gateway(stdin(), stdout()),
+        ("gateway", "reference") => reference(Program::Gateway),
         ("replay", "plain") => replay::<plain::Plain>(),
         ("replay", "fast") => replay::<fast::Fast>(),
-        ("replay", "reference") => second::reference::programs::replay(stdin(), stdout()),
+        ("replay", "reference") => reference(Program::Replay),
         _ => panic!("baseline gateway|replay plain|fast|reference"),
     }
 }

@@ -1,11 +1,15 @@
 //! Outside tests: the library through its C interface and the programs as child processes, compared with the reference.
 //!
-//!     outside [--seed N] [--share PERCENT] [--self-test] GATEWAY REPLAY
+//!     outside [--seed N] [--share PERCENT] [--self-test] GATEWAY REPLAY DELIVERED
 //!
 //! Ends with status 1 at the first difference. `run` beside this file builds and runs all.
 
 #[path = "outside/bench.rs"]
 mod bench;
+#[path = "outside/captures.rs"]
+mod captures;
+#[path = "outside/children.rs"]
+mod children;
 #[path = "outside/codes.rs"]
 mod codes;
 #[path = "outside/events.rs"]
@@ -24,12 +28,17 @@ mod random;
 mod reference;
 #[path = "outside/selftest.rs"]
 mod selftest;
+#[path = "outside/speaking.rs"]
+mod speaking;
 
 use bench::{Bench, Check};
-use programs::{Children, Runner};
+use children::Children;
+use programs::Runner;
 use std::time::Instant;
 
-const SECTIONS: [&str; 5] = ["codes", "formats", "events", "forms", "programs"];
+/// The sections in their order; the programs are run in those of the second list alone.
+const SECTIONS: [&str; 6] = ["codes", "formats", "events", "forms", "speaking", "programs"];
+const PROGRAM_SECTIONS: [&str; 2] = ["speaking", "programs"];
 
 /// Run these sections; the case of the first difference names its section.
 fn sections(bench: &mut Bench, runner: &dyn Runner, which: &[&str]) -> Check {
@@ -39,6 +48,7 @@ fn sections(bench: &mut Bench, runner: &dyn Runner, which: &[&str]) -> Check {
             "formats" => formats::formats(bench),
             "events" => events::events(bench),
             "forms" => forms::forms(bench),
+            "speaking" => speaking::speaking(bench, runner),
             _ => programs::programs(bench, runner),
         };
         result.map_err(|why| format!("{section}: {why}"))?;
@@ -95,11 +105,11 @@ fn whole_run(arguments: &Arguments) -> Result<String, String> {
     if arguments.self_test {
         selftest::self_test(arguments.seed)?;
     }
-    let [gateway, replay] = &arguments.paths[..] else {
+    let [gateway, replay, delivered] = &arguments.paths[..] else {
         let alone = Ok("self-test passed; the library and the programs were not tested".into());
-        return if arguments.self_test { alone } else { Err("the paths of gateway and replay are asked for".into()) };
+        return if arguments.self_test { alone } else { Err("the paths of gateway, replay and delivered are asked for".into()) };
     };
-    let children = Children { gateway: gateway.clone(), replay: replay.clone() };
+    let children = Children { gateway: gateway.clone(), replay: replay.clone(), delivered: delivered.clone() };
     let mut bench = Bench::new(&library::Library, arguments.seed, arguments.share);
     for section in SECTIONS {
         let (start, before) = (Instant::now(), bench.checks);

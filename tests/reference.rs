@@ -6,7 +6,7 @@ pub mod codes; // slot type, block field, the three checks
 pub mod examples; // the worked examples, as checks of this reference
 pub mod history; // the receiver, by the history rule
 pub mod packet; // headers, blocks, messages, responses
-pub mod programs; // the lines that the two programs print
+pub mod programs; // the lines that the programs print, and what they say
 pub mod stored; // the stored form
 pub mod wrong; // mistakes that can be switched on, to show that the tests find them
 

@@ -1,5 +1,5 @@
-//! A stand-in for the library and the programs, made of the reference: with it `run --standin` tries the outside tests themselves,
-//! linking and child processes included, where the real ones are not built. A program is chosen by the name it is called by.
+//! A stand-in for the library, made of the reference: with it and with standin_programs.rs `run --standin` tries the outside tests
+//! themselves, linking and child processes included, where the real ones are not built.
 
 #![allow(dead_code)]
 
@@ -107,13 +107,4 @@ pub unsafe extern "C" fn kirruskabe_block_check(serial: u8, data: In, len: usize
 #[no_mangle]
 pub unsafe extern "C" fn kirruskabe_message_check(octets: In, len: usize) -> u32 {
     value(Call::MessageCheck { octets: given(octets, len) })
-}
-
-fn main() -> std::io::Result<()> {
-    let (from, to) = (std::io::stdin(), std::io::stdout());
-    let gateway = std::env::args().next().is_some_and(|name| name.ends_with("gateway"));
-    if gateway {
-        return reference::programs::gateway(from, to);
-    }
-    reference::programs::replay(from, to)
 }

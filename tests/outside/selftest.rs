@@ -3,22 +3,24 @@
 use super::bench::{Bench, Check};
 use super::interface::Model;
 use super::programs::ModelRunner;
-use super::{coverage, sections, SECTIONS};
-use crate::reference::wrong::{Wrong, ALL};
+use super::{coverage, sections, PROGRAM_SECTIONS, SECTIONS};
+use crate::reference::wrong::{Wrong, OF_LIBRARY, OF_PROGRAMS};
 
 /// Part of the whole run that is enough to find every mistake, in percent.
 const SHARE: usize = 4;
 
 pub fn self_test(seed: u64) -> Check {
-    let found = |wrong: Wrong| -> Option<&'static str> {
+    let found = |wrong: Wrong, which: &[&'static str]| -> Option<&'static str> {
         let model = Model(wrong);
-        SECTIONS.into_iter().find(|&section| {
+        which.iter().copied().find(|&section| {
             let mut bench = Bench::new(&model, seed, SHARE);
             sections(&mut bench, &ModelRunner(wrong), &[section]).is_err()
         })
     };
-    for wrong in ALL {
-        match found(wrong) {
+    // a mistake of the programs alone is looked for where they are run
+    let of_programs = OF_PROGRAMS.map(|wrong| (wrong, &PROGRAM_SECTIONS[..]));
+    for (wrong, which) in OF_LIBRARY.map(|wrong| (wrong, &SECTIONS[..])).into_iter().chain(of_programs) {
+        match found(wrong, which) {
             Some(section) => println!("self-test: {wrong:?} is found by {section}"),
             None => return Err(format!("the mistake {wrong:?} is not found")),
         }
@@ -30,6 +32,6 @@ pub fn self_test(seed: u64) -> Check {
         return Err("an empty run is taken for a whole one".into());
     }
     sections(&mut bench, &ModelRunner(Wrong::Nothing), &SECTIONS)?;
-    println!("self-test: {} mistakes found, {} checks of the reference against itself", ALL.len(), bench.checks);
+    println!("self-test: {} mistakes found, {} checks of the reference against itself", OF_LIBRARY.len() + OF_PROGRAMS.len(), bench.checks);
     Ok(())
 }

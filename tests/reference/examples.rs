@@ -4,7 +4,7 @@ use super::burst::*;
 use super::codes::*;
 use super::history::*;
 use super::packet::*;
-use super::programs::{gateway, printed};
+use super::programs::{printed, Program};
 use super::stored::*;
 use super::*;
 
@@ -79,7 +79,7 @@ pub fn examples() -> Result<u64, String> {
         check("wrong bits in a slot type", read_slot_type(write_slot_type(0x16) ^ word) == expected)?;
     }
 
-    let zeros = |n| printed(|from, to| gateway(from, to), &vec![0; n]);
+    let zeros = |n| printed(Program::Gateway, &vec![0; n]);
     check("address and 53 zero octets", zeros(56) == "0 2\nend 1 0 1\n")?;
     check("under three octets", zeros(2) == "end 0 0 0\n" && zeros(3) == "end 0 0 0\n")?;
 

@@ -37,7 +37,7 @@ impl Transaction {
     }
 
     /// The first 10B - 4 - pad octets.
-    fn message(&self) -> Vec<u8> {
+    pub fn message(&self) -> Vec<u8> {
         let length = (10 * usize::from(self.blocks) - 4).saturating_sub(self.pad.into());
         self.octets()[..length].to_vec()
     }

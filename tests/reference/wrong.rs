@@ -35,9 +35,32 @@ pub enum Wrong {
     LeftoverNotCounted,
     /// The replay is silent about a record cut short.
     CutRecordSilent,
+    /// The index that the gateway prints begins again after 4,999.
+    IndexModulo5000,
+    /// The index of a delivery is a number of 16 bits.
+    IndexInSixteenBits,
+    /// A source is printed with its lowest octet first.
+    SourceReversed,
+    /// A delivery is printed without its SAP.
+    SapLeftOut,
+    /// A delivery has octet 1 of the header for its SAP.
+    SapWithPad,
+    /// A delivery has the index of its header, not of its last block.
+    IndexOfHeader,
+    /// A message is printed again when its header is repeated.
+    PrintedAgainAtRepeat,
+    /// A program runs although it is given an argument.
+    ArgumentsIgnored,
+    /// An input that can't be read is taken for one that ends.
+    UnreadableTakenForEnd,
+    /// A program goes on although its output can't be written.
+    UnwritableIgnored,
+    /// A program stops without a word.
+    StopsSilent,
 }
 
-pub const ALL: [Wrong; 15] = [
+/// Those of the library.
+pub const OF_LIBRARY: [Wrong; 13] = [
     Wrong::RowsZeroToEightOnly,
     Wrong::FourWrongBitsTaken,
     Wrong::PartialCountTakenForMessage,
@@ -51,8 +74,23 @@ pub const ALL: [Wrong; 15] = [
     Wrong::StoreNotTested,
     Wrong::FormBeforeSize,
     Wrong::ClearsLentMemory,
+];
+
+/// Those of the programs alone.
+pub const OF_PROGRAMS: [Wrong; 13] = [
     Wrong::LeftoverNotCounted,
     Wrong::CutRecordSilent,
+    Wrong::IndexModulo5000,
+    Wrong::IndexInSixteenBits,
+    Wrong::SourceReversed,
+    Wrong::SapLeftOut,
+    Wrong::SapWithPad,
+    Wrong::IndexOfHeader,
+    Wrong::PrintedAgainAtRepeat,
+    Wrong::ArgumentsIgnored,
+    Wrong::UnreadableTakenForEnd,
+    Wrong::UnwritableIgnored,
+    Wrong::StopsSilent,
 ];
 
 thread_local! {
