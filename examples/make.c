@@ -11,6 +11,7 @@
 
 #define OWN 0x2301AF
 #define SENDER 0x230456
+#define SECOND 0x12D687
 #define SAP 4
 #define NS 5
 #define BLOCKS 2
@@ -133,6 +134,16 @@ static const uint8_t *header_to(uint32_t destination, uint32_t source) {
     return out;
 }
 
+/* The second block with wrong octets and a good check. */
+static const uint8_t *wrong_block(void) {
+    static uint8_t out[KIRRUSKABE_BLOCK];
+    uint8_t data[10];
+    memcpy(data, blocks[1] + 2, sizeof data);
+    data[0] ^= 1;
+    written(kirruskabe_write_block(1, data, sizeof data, out, sizeof out));
+    return out;
+}
+
 /* ---- records of a log */
 
 static void put_record(uint8_t kind, const uint8_t *octets, size_t length) {
@@ -224,20 +235,60 @@ static void restart_log(void) {
 }
 
 static void bad_log(void) {
-    uint8_t data[10], wrong[KIRRUSKABE_BLOCK];
-    memcpy(data, blocks[1] + 2, sizeof data);
-    data[0] ^= 1;
-    written(kirruskabe_write_block(1, data, sizeof data, wrong, sizeof wrong));
     put_end();
     put_record(0, header, sizeof header);
     put_end();
-    put_record(1, wrong, sizeof wrong);
+    put_record(1, wrong_block(), KIRRUSKABE_BLOCK);
     put_record(1, blocks[0], sizeof blocks[0]);
     put_end();
     put_record(0, partial, sizeof partial);
     put_record(1, blocks[1], sizeof blocks[1]);
     put_record(1, blocks[0], sizeof blocks[0]);
     put_bad_records();
+}
+
+/* The header or the one block of an empty message from the second station. */
+static void put_empty(uint8_t datatype) {
+    uint8_t out[12];
+    if (datatype == 6) written(kirruskabe_full_header(0, 0, 7, OWN, SECOND, out, sizeof out));
+    else written(kirruskabe_message_block(message, 0, 0, out, sizeof out));
+    put_datagram(datatype, out);
+}
+
+static void deliveries_capture(void) {
+    sequence = 90;
+    put_datagram(6, header);
+    put_datagram(7, wrong_block());
+    put_datagram(7, blocks[0]);         /* bad */
+    put_datagram(6, partial);
+    put_datagram(7, blocks[1]);
+    put_datagram(7, blocks[0]);         /* handed on */
+    put_datagram(6, header);
+    put_datagram(7, blocks[0]);         /* a repeat: 12 */
+    put_empty(6);
+    put_empty(7);                       /* handed on, no octets */
+    put_empty(7);
+    put_datagram(6, header);            /* no repeat any more: another transaction came between */
+    put_datagram(7, blocks[1]);
+    put_datagram(7, blocks[0]);         /* handed on */
+}
+
+static void delivered_stdin(void) {
+    sequence = 7;
+    put_empty(7);
+    put_empty(6);
+    put_datagram(6, damaged(header, 3, 2));
+    put_empty(7);
+    put_empty(6);
+    put_datagram(6, header);
+    put_datagram(7, blocks[0]);
+    put_datagram(7, wrong_block());
+    put_datagram(6, header);
+    put_datagram(7, blocks[0]);
+    put_datagram(7, damaged(blocks[1], 8, 1));
+    put_datagram(7, blocks[1]);
+    put_datagram(7, blocks[1]);
+    put(datagram, KIRRUSKABE_DATAGRAM - 1);
 }
 
 static void gateway_stdin(void) {
@@ -266,8 +317,9 @@ int main(int argc, char **argv) {
     static const struct {
         const char *name;
         void (*write)(void);
-    } files[] = {{"message.capture", message_capture}, {"refusals.capture", refusals_capture}, {"restart.log", restart_log},
-                 {"bad.log", bad_log}, {"gateway.stdin", gateway_stdin}, {"replay.stdin", replay_stdin}};
+    } files[] = {{"message.capture", message_capture}, {"refusals.capture", refusals_capture}, {"deliveries.capture", deliveries_capture},
+                 {"restart.log", restart_log}, {"bad.log", bad_log}, {"gateway.stdin", gateway_stdin}, {"replay.stdin", replay_stdin},
+                 {"delivered.stdin", delivered_stdin}};
     if (argc != 2) {
         fprintf(stderr, "usage: make FOLDER\n");
         return 2;

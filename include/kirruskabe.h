@@ -43,9 +43,19 @@ extern "C" {
 /* ---- the receiver
 
    Its state is its stored form. Each event takes the stored form, restores the receiver from it, acts, and leaves the stored form of
-   the receiver after the event. Whoever writes those octets down before acting on the answer can lose power at any moment, and hands
-   no message on twice: the claim `demand3` of crates/history/specs/Claims.antt, with a restart before every event, is exactly this.
-   The stamp stands in both blocks of the stored form (octets 2, 3 and 514, 515); it may be any. */
+   the receiver after the event: the claim `demand3` of crates/history/specs/Claims.antt, with a restart before every event.
+
+   That holds of a stored form that is kept whole. For a message to be handed on once although power can be lost, the caller sees to this:
+
+   - The 1,024 octets reach the disk all or not at all: write another file, fsync, rename; or write two places in turn.
+   - The stamp differs from the one before. It stands in both blocks of the stored form (octets 2, 3 and 514, 515), and the functions take
+     any. But of a form with one block new and the other old only the stamps tell: if they differ it gets 18, and if they are equal it can
+     be taken for a good one. After 18 there is only kirruskabe_fresh left, and a fresh receiver hands a repeated message on again.
+   - Save first, then act: acting before saving can double a message. Saving before acting can lose one, but a complete stored form (octet
+     4 is 2) still holds its message: 10B - 4 - pad octets, B in octet 14 and pad in octet 13, the first 487 from octet 23 on, the others
+     from octet 516 on. A caller that finds it at its start, and no record that this message was handed on, hands it on then.
+
+   tests/example.c does all of this. */
 
 /* The stored form of a fresh receiver with this address. 16: address over 24 bits. */
 uint8_t kirruskabe_fresh(uint32_t own, uint16_t stamp, uint8_t *form, size_t form_len);

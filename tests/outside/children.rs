@@ -104,7 +104,7 @@ impl Runner for Children {
         let to = child.stdin.take();
         if let (Some(mut to), Input::Open(octets)) = (to.as_ref(), &setting.input) {
             // a program that has ended takes nothing
-            let _ = to.write_all(octets);
+            let _ = to.write_all(&octets.0);
         }
         let ended = watched(child, STOPS)?;
         drop(to);
@@ -130,7 +130,7 @@ impl Prepared {
         let (mut file, mut other) = (None, None);
         let end = match input {
             Input::File(octets) => {
-                let shared = file_with(octets)?;
+                let shared = file_with(&octets.0)?;
                 file = Some(shared.try_clone()?);
                 Stdio::from(shared)
             }
@@ -139,7 +139,7 @@ impl Prepared {
             Input::NotReady(octets) => {
                 let (mut ours, its) = UnixStream::pair()?;
                 its.set_nonblocking(true)?;
-                ours.write_all(octets)?;
+                ours.write_all(&octets.0)?;
                 other = Some(ours);
                 Stdio::from(OwnedFd::from(its))
             }

@@ -45,6 +45,7 @@ pub fn forms(bench: &mut Bench) -> Check {
     }
     broken_layouts(bench)?;
     sizes(bench)?;
+    torn(bench)?;
     two_faults(bench)
 }
 
@@ -258,6 +259,28 @@ fn sizes(bench: &mut Bench) -> Check {
         bench.compare_over(&Call::OnBlock { stamp, block: octets.clone() }, &form, &line)?;
         bench.compare_over(&Call::OnHeader { stamp, header: octets.clone() }, &form, &line)?;
         bench.compare_over(&Call::OnDatagram { stamp, datagram: octets }, &form, &line)?;
+    }
+    Ok(())
+}
+
+/// One block of the form before an event and one of the form after it: 18 if the stamps differ. If they are equal, a form that counts a
+/// block as held whose octets were not written is taken for a good one.
+fn torn(bench: &mut Bench) -> Check {
+    for held in 0..62 {
+        let history = sent(bench, 620, held)?;
+        let mut next = history.clone();
+        good(write_block(held as u8, &bench.random.array()).and_then(|block| next.on_block(&block)))?;
+        let stamp = bench.random.stamp();
+        for other in [stamp.wrapping_add(1), stamp] {
+            let (before, after) = (save(&history, stamp), save(&next, other));
+            for (first, second, taken) in [(&after, &before, true), (&before, &after, held < 48)] {
+                let form = [&first[..HALF], &second[HALF..]].concat();
+                let expected = if stamp == other && taken { 0 } else { STORED_LAYOUT };
+                let left = bench.compare_over(&Call::OnEnd { stamp }, &form, &[0; LINE])?;
+                let case = || format!("a form torn at block {held}, stamps {stamp} and {other}: {}", left.result);
+                bench.check(left.result == u32::from(expected), case)?;
+            }
+        }
     }
     Ok(())
 }

@@ -2,6 +2,7 @@
 
 use super::bench::{Bench, Check};
 use super::captures::{capture, log, long_capture, long_log, parts};
+use super::interface::Octets;
 use crate::reference::programs::{printed, run, Program};
 use crate::reference::wrong::{with, Wrong};
 use std::io::{Error, Read, Write};
@@ -17,11 +18,11 @@ pub enum Feed {
 #[derive(Clone, Debug)]
 pub enum Input {
     /// A file with these octets.
-    File(Vec<u8>),
+    File(Octets),
     /// A pipe with these octets that stays open.
-    Open(Vec<u8>),
+    Open(Octets),
     /// These octets; then reading fails, since there is nothing yet and the program is not to wait.
-    NotReady(Vec<u8>),
+    NotReady(Octets),
     /// A folder.
     Folder,
     Closed,
@@ -77,9 +78,9 @@ impl Runner for ModelRunner {
 
     fn run_in(&self, program: Program, setting: &Setting) -> Result<Said, String> {
         let (octets, then) = match &setting.input {
-            Input::File(octets) => (&octets[..], Then::End),
-            Input::Open(octets) => (&octets[..], Then::Waits),
-            Input::NotReady(octets) => (&octets[..], Then::Fails),
+            Input::File(octets) => (&octets.0[..], Then::End),
+            Input::Open(octets) => (&octets.0[..], Then::Waits),
+            Input::NotReady(octets) => (&octets.0[..], Then::Fails),
             Input::Folder | Input::Closed => (&[][..], Then::Fails),
         };
         let mut from = ModelInput { octets, then, unread: true, waited: false };

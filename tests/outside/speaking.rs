@@ -3,6 +3,7 @@
 use super::bench::{good, Bench, Check};
 use super::captures::{parts, record};
 use super::events::{in_datagram, Event};
+use super::interface::Octets;
 use super::programs::{Input, Output, Runner, Said, Setting};
 use crate::reference::packet::{full_header, message_block};
 use crate::reference::programs::{printed, Program};
@@ -15,7 +16,7 @@ pub fn speaking(bench: &mut Bench, runner: &dyn Runner) -> Check {
     unreadable(bench, runner)?;
     unwritable(bench, runner)?;
     // a run in which nothing is amiss is silent; those over inputs are seen to be so where their lines are compared
-    let setting = Setting { arguments: &[], input: Input::File(vec![]), output: Output::Kept };
+    let setting = Setting { arguments: &[], input: Input::File([].into()), output: Output::Kept };
     let said = ran(runner, Program::Vectors, &setting)?;
     bench.check(said.error.is_empty() && !said.output.is_empty(), || format!("Vectors prints {:?} and says {:?}", said.output, said.error))
 }
@@ -59,7 +60,7 @@ fn usage(bench: &mut Bench, runner: &dyn Runner) -> Check {
         let begin = format!("usage: {}", program.name());
         let asked = |line: &str| line.strip_prefix(&begin).is_some_and(|rest| rest.is_empty() || rest.starts_with(' '));
         for arguments in [&["--help"][..], &["-h"], &["x"], &[""], &["--help", "x"], &["/dev/null"], &[&long]] {
-            for input in [Input::Open(octets.clone()), Input::File(octets.clone()), Input::Open(vec![]), Input::Closed] {
+            for input in [Input::Open(Octets(octets.clone())), Input::File(Octets(octets.clone())), Input::Open([].into()), Input::Closed] {
                 let setting = Setting { arguments, input, output: Output::Kept };
                 let said = ran(runner, program, &setting)?;
                 spoke(bench, program, &setting, &said, "", asked)?;
@@ -76,9 +77,9 @@ fn unreadable(bench: &mut Bench, runner: &dyn Runner) -> Check {
     for program in WITH_INPUT {
         let octets = one_message(bench, program)?;
         let (cut, begun) = (octets.len() - 1, [&octets[..], &octets[3..9]].concat());
-        let inputs = [&octets[..0], &octets[..2], &octets[..3], &octets[..cut], &octets, &begun].map(|some| Input::NotReady(some.to_vec()));
+        let inputs = [&octets[..0], &octets[..2], &octets[..3], &octets[..cut], &octets, &begun].map(|some| Input::NotReady(some.into()));
         for input in [Input::Folder, Input::Closed].into_iter().chain(inputs) {
-            let lines = if let Input::NotReady(some) = &input { lines_of_whole(program, some) } else { String::new() };
+            let lines = if let Input::NotReady(some) = &input { lines_of_whole(program, &some.0) } else { String::new() };
             let setting = Setting { arguments: &[], input, output: Output::Kept };
             let said = ran(runner, program, &setting)?;
             spoke(bench, program, &setting, &said, &lines, asked)?;
@@ -100,7 +101,7 @@ fn unwritable(bench: &mut Bench, runner: &dyn Runner) -> Check {
     for output in [Output::Full, Output::Closed] {
         for program in WITH_INPUT {
             let octets = one_message(bench, program)?;
-            for input in [Input::Open(octets.clone()), Input::File(octets)] {
+            for input in [Input::Open(Octets(octets.clone())), Input::File(Octets(octets))] {
                 let setting = Setting { arguments: &[], input, output };
                 let said = ran(runner, program, &setting)?;
                 spoke(bench, program, &setting, &said, "", asked)?;
@@ -108,7 +109,7 @@ fn unwritable(bench: &mut Bench, runner: &dyn Runner) -> Check {
         }
         // the line at the end, and the program without an input
         for (program, octets) in [(Program::Gateway, vec![]), (Program::Gateway, vec![1, 2, 3]), (Program::Vectors, vec![])] {
-            let setting = Setting { arguments: &[], input: Input::File(octets), output };
+            let setting = Setting { arguments: &[], input: Input::File(Octets(octets)), output };
             let said = ran(runner, program, &setting)?;
             spoke(bench, program, &setting, &said, "", asked)?;
         }

@@ -7,7 +7,7 @@ use super::wrong::{wrong, Wrong};
 use super::*;
 
 pub const FORM: usize = 1024;
-const HALF: usize = 512;
+pub const HALF: usize = 512;
 
 /// Put the check behind each block's 510 octets.
 pub fn with_checks(form: &mut [u8]) {
