@@ -50,12 +50,13 @@ extern "C" {
    - The 1,024 octets reach the disk all or not at all: write another file, fsync, rename; or write two places in turn.
    - The stamp differs from the one before. It stands in both blocks of the stored form (octets 2, 3 and 514, 515), and the functions take
      any. But of a form with one block new and the other old only the stamps tell: if they differ it gets 18, and if they are equal it can
-     be taken for a good one. After 18 there is only kirruskabe_fresh left, and a fresh receiver hands a repeated message on again.
+     be taken for a good one. After 17 or 18 only kirruskabe_fresh is left, and a fresh receiver hands a repeated message on again.
    - Save first, then act: acting before saving can double a message. Saving before acting can lose one, but a complete stored form (octet
      4 is 2) still holds its message: 10B - 4 - pad octets, B in octet 14 and pad in octet 13, the first 487 from octet 23 on, the others
      from octet 516 on. A caller that finds it at its start, and no record that this message was handed on, hands it on then.
 
-   tests/example.c does all of this. */
+   tests/example.c does all of this. Its records name a message by a count that is saved with the stored form, since a later message can
+   be equal to an earlier one in all its octets. */
 
 /* The stored form of a fresh receiver with this address. 16: address over 24 bits. */
 uint8_t kirruskabe_fresh(uint32_t own, uint16_t stamp, uint8_t *form, size_t form_len);
