@@ -35,7 +35,7 @@ unfolding listed lineText numberLines numbers deliveryLines
 listed-cons Numbers i o os = refl
 listed-cons Deliveries i o os = refl
 
-lines-none : (l : Listing) (s : Running) → linesOf l s [] ≡ []
+pub lines-none : (l : Listing) (s : Running) → linesOf l s [] ≡ []
 unfolding linesOf outcomes listed numberLines numbers deliveryLines
 lines-none Numbers s = refl
 lines-none Deliveries s = refl

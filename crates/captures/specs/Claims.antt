@@ -3,13 +3,17 @@
 use mathlib.Core.Path.{_≡_}
 use mathlib.Core.Bool.{Bool, true}
 use mathlib.Core.List.{List, [], _++_}
-use Prim.Native.Nat.{ℕ}
-use lib.ListN.{take, drop}
+use Prim.Native.Nat.{ℕ, _^_, _<_}
+use lib.ListN.{length, take, drop}
+use Rattle.addresses.specs.Octets.{addressAt}
+use Rattle.receiver_state.specs.Receiver.{storeSize}
+use Rattle.history.specs.History.{nothing}
 use Rattle.reception.specs.declared.Answer.{Answer}
 use Rattle.counting.specs.Counts.{countsOf}
 use Rattle.captures.specs.declared.Listing.{Listing}
 use Rattle.captures.specs.declared.Listed.{Listed}
-use Rattle.captures.specs.Captures.{Running, running, cut, answered, answersGiven, printed}
+use Rattle.captures.specs.Captures.{cut, started, Running, running, answersGiven, leftByAll, outcomes, printed, answered}
+use Rattle.captures.specs.Rule.{outcomesByRule, historyOver}
 
 -- whatever follows these octets: the whole text is what is written now, and then the whole text of the octets not yet answered and of what
 -- follows, from the gateway and the store that are left. Nothing follows the last octets.
@@ -24,3 +28,17 @@ abbrev pub CountsGoOn : Listing → Running → List ℕ → Bool → Listed →
 CountsGoOn l s os last r text =
     r .number ≡ 0 → (given : List Answer) → s .gateway .counts ≡ countsOf given
     → r .gateway .counts ≡ countsOf (given ++ answersGiven s (cut (answered l last os text) os))
+
+-- by the history rule: what is told of the datagrams, after any datagrams from a start with any store
+abbrev pub ByRule : Listing → Running → List ℕ → Bool → Listed → List ℕ → Type 0
+ByRule l s os last r text =
+    r .number ≡ 0 → (own first : List ℕ) (past : List (List ℕ)) → addressAt own 0 .0 < 2 ^ 24 → length first ≡ storeSize
+    → s ≡ leftByAll (running (started own) first) past
+    → outcomes s (cut (answered l last os text) os)
+    ≡ outcomesByRule (addressAt own 0) (historyOver (addressAt own 0) nothing past) (cut (answered l last os text) os)
+
+-- all three, of what `list` gives
+pub record ListClaims (l : Listing) (s : Running) (os : List ℕ) (last : Bool) (text : List ℕ) (r : Listed) (store′ text′ : List ℕ) : Type 0 where
+  pub goes-on : GoesOn l s os last r store′ text′
+  pub counts-go-on : CountsGoOn l s os last r text
+  pub by-rule : ByRule l s os last r text

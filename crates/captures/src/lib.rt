@@ -1,6 +1,7 @@
 // A part of a capture: datagrams at a gateway, and lines of text for them. What a program is left with is reading and writing.
 ghost use mathlib.Core.Path.{_≡_};
-ghost use Prim.Native.Nat.{_+_, _*_, _-_, _≤_, _<_, min};
+ghost use mathlib.Core.Bool.{cond};
+ghost use Prim.Native.Nat.{_+_, _*_, _-_, _/_, _≤_, _<_, min};
 ghost use lib.ListN.{length};
 ghost use Rattle.foundation.specs.Octets.{put};
 ghost use Rattle.receiver_state.specs.Receiver.{storeSize};
@@ -9,9 +10,9 @@ ghost use Rattle.reception.specs.Reception.{said};
 ghost use Rattle.texts.specs.Texts.{endAt, Wrote};
 ghost use Rattle.captures.specs.Lines.{numberLine, endLine, sourcePart, sizePart, messageLine, badLine, deliveryLine, lineRoom};
 ghost use Rattle.captures.specs.Parts.{lineText, Within};
-ghost use Rattle.captures.specs.Captures.{running, started, leftBy, outcomeOf, cut, leftByAll, linesOf, storeAfter, textAfter};
+ghost use Rattle.captures.specs.Captures.{datagramsIn, wholeIn, running, started, leftBy, outcomeOf, cut, leftByAll, linesOf, storeAfter, textAfter};
 ghost use Rattle.captures.specs.Captures.{list as Captures·list};
-ghost use Rattle.captures.specs.Claims.{GoesOn, CountsGoOn};
+ghost use Rattle.captures.specs.Claims.{ListClaims};
 use counting::Counts;
 use receiver::event;
 use receiver_state::Receiver;
@@ -274,4 +275,83 @@ fn answer_all(
         i += 1;
     }
     Step { gateway: now, end }
+}
+
+// How many datagrams are answered: those that have come whole, or all where nothing follows; no more than there is room for.
+fn count(listing: Listing, size: usize, last: bool, room: usize) -> usize
+    ensures { λ r. ⌜ r ≡ min (cond last (datagramsIn size) (wholeIn size)) (room / lineRoom listing) ⌝ }
+{
+    let fits = room / line_room(listing);
+    if last {
+        return shorter(
+            size / DATAGRAM + (size % DATAGRAM + DATAGRAM - 1) / DATAGRAM,
+            fits,
+        );
+    }
+    shorter(size / DATAGRAM, fits)
+}
+
+// The most octets of a line.
+fn line_room(listing: Listing) -> usize
+    ensures { λ r. ⌜ r ≡ lineRoom listing ⌝ }
+{
+    match listing {
+        Listing::Numbers => 25,
+        Listing::Deliveries => 1302,
+    }
+}
+
+// The octets of k datagrams, of so many that there are.
+fn octets_of(k: usize, size: usize) -> usize
+    ensures { λ r. ⌜ r ≡ min (53 * k) size ⌝ }
+{
+    if size / DATAGRAM < k {
+        return size;
+    }
+    DATAGRAM * k
+}
+
+fn refused(g: Gateway) -> Listed
+    ensures { λ r. ⌜ r ≡ record { number = 1; gateway = g; taken = 0; end = 0 } ⌝ }
+{
+    Listed {
+        number: 1,
+        gateway: g,
+        taken: 0,
+        end: 0,
+    }
+}
+
+// Octets of datagrams at a gateway: the lines of those that have come whole, at the start of the text, and of leftover octets too where
+// nothing follows; as many as there is room for. The octets behind those taken are not answered yet.
+pub fn list(
+    listing: Listing,
+    g: Gateway,
+    store: &mut [u8],
+    octets: &[u8],
+    last: bool,
+    text: &mut [u8],
+) -> Listed
+    ensures { λ r. ⌜ (r ≡ Captures·list listing g (now (store .entry)) (now (octets .entry)) last (now (text .entry)))
+        × (now (store .exit) ≡ storeAfter listing g (now (store .entry)) (now (octets .entry)) last (now (text .entry)))
+        × (now (text .exit) ≡ textAfter listing g (now (store .entry)) (now (octets .entry)) last (now (text .entry)))
+        × ListClaims listing (running g (now (store .entry))) (now (octets .entry)) last (now (text .entry)) r (now (store .exit)) (now (text .exit)) ⌝ }
+{
+    let size = octets.len();
+    let room = text.len();
+    if store.len() != STORE {
+        return refused(g);
+    }
+    if room < line_room(listing) {
+        return refused(g);
+    }
+    let k = count(listing, size, last, room);
+    let step = answer_all(listing, g, store, octets, k, text);
+    let gateway = step.gateway;
+    Listed {
+        number: 0,
+        gateway,
+        taken: octets_of(k, size),
+        end: step.end,
+    }
 }
