@@ -6,3 +6,4 @@ pub mod Numbers
 pub mod ReadingBack
 pub mod Rows
 pub mod BurstClaims
+pub mod Examples

@@ -1,3 +1,4 @@
 pub mod Bursts
 pub mod Parts
 pub mod BurstClaims
+pub mod Examples

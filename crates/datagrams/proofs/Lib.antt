@@ -4,3 +4,4 @@ pub mod DatagramBack
 pub mod DatagramRows
 pub mod DatagramClaims
 pub mod AnswerBack
+pub mod Examples

@@ -1,3 +1,4 @@
 pub mod Datagrams
 pub mod DatagramParts
 pub mod DatagramClaims
+pub mod Examples

@@ -2,12 +2,12 @@
 -- Assumes nothing.
 use mathlib.Core.Path.{refl}
 use Rattle.packets.specs.Headers.{headerBody, withCheck, writtenHeader}
-use Rattle.messages.specs.Messages.{blocksOf, padOf, sizeOf}
+use Rattle.messages.specs.Messages.{blocksOf, padOf, sizeOf, attemptHeader}
 use Rattle.messages.specs.Responses.{replyCode, responseHeader}
 use Rattle.messages.specs.PacketExamples.{MessageExamples}
 
 pub examples : MessageExamples
-unfolding headerBody withCheck writtenHeader blocksOf padOf sizeOf replyCode responseHeader
+unfolding headerBody withCheck writtenHeader blocksOf padOf sizeOf attemptHeader replyCode responseHeader
 examples = record {
   size-0 = refl;
   size-6 = refl;
@@ -17,4 +17,6 @@ examples = record {
   ack = λ d e. rw e;
   nack = λ d e. rw e;
   sack = λ d e. rw e;
+  fsn = λ d e. rw e;
+  one-block = λ d. refl;
 }

@@ -1,9 +1,10 @@
--- The worked examples of document 01 that concern messages and responses and are marked P.
+-- The worked examples of document 01 that concern messages and responses and are marked P, and for FSN and a SACK's block count, on which
+-- none of these depends, one each.
 -- Assumes nothing.
 use mathlib.Core.Path.{_≡_}
 use lib.ListN.{getD}
 use Rattle.packets.specs.Headers.{writtenHeader}
-use Rattle.messages.specs.Messages.{sizeOf}
+use Rattle.messages.specs.Messages.{sizeOf, attemptHeader}
 use Rattle.messages.specs.Responses.{responseHeader}
 use Rattle.messages.specs.declared.message.Delivery.{Delivery}
 use Rattle.messages.specs.declared.response.Reply.the-variants.{Ack, Nack, Sack}
@@ -19,3 +20,7 @@ pub record MessageExamples : Type 0 where
   pub ack : (d : Delivery) → d .ns ≡ 5 → getD (writtenHeader (responseHeader Ack d)) 9 0 ≡ 0x0D
   pub nack : (d : Delivery) → d .ns ≡ 5 → getD (writtenHeader (responseHeader Nack d)) 9 0 ≡ 0x4D
   pub sack : (d : Delivery) → d .ns ≡ 5 → getD (writtenHeader (responseHeader Sack d)) 9 0 ≡ 0x85
+  -- a message of 13 octets in two blocks
+  pub fsn : (d : Delivery) → d .ns ≡ 5 → getD (writtenHeader (attemptHeader 13 d 1 2)) 9 0 ≡ 0x58
+  -- octet 8
+  pub one-block : (d : Delivery) → getD (writtenHeader (responseHeader Sack d)) 8 0 ≡ 1

@@ -10,7 +10,11 @@ use lib.ListN.{replicate}
 use borrow.Author.Tests.{le-leb, ne-eqb}
 use Rattle.codes.proofs.Examples.{examples as codes}
 use Rattle.checks.proofs.Examples.{examples as checks}
+use Rattle.bursts.proofs.Examples.{examples as bursts}
+use Rattle.datagrams.proofs.Examples.{examples as datagrams}
+use Rattle.packets.proofs.Examples.{examples as packets}
 use Rattle.messages.proofs.PacketExamples.{examples as messages}
+use Rattle.stored.proofs.Examples.{examples as stored}
 use Rattle.transactions.specs.Flags.{weights, flagOctets}
 use Rattle.transactions.specs.Answers.{sackFlags}
 use Rattle.transactions.specs.declared.header.Transaction.{Transaction}
@@ -33,4 +37,13 @@ module _ (t : Transaction) (held : ℕ → Bool) (three : t .blocks ≡ 3) (firs
   flags = ap flagOctets (λ i n. all-but-1 n i)
 
 pub examples : PExamples
-examples = record { codes = codes; checks = checks; messages = messages; flags = flags }
+examples = record {
+  codes = codes;
+  checks = checks;
+  bursts = bursts;
+  datagrams = datagrams;
+  packets = packets;
+  messages = messages;
+  stored = stored;
+  flags = flags;
+}

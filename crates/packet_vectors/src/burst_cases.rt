@@ -26,31 +26,34 @@ fn written(t: Tally, text: &[u8], sync: Sync, expected: &[u8]) -> Tally
     ensures { λ r. ⌜ r .cases ≡ (t .cases + 1) % 2 ^ 32 ⌝ }
 {
     let octets = burst::write(1, 6, info(), sync).octets;
-    report::name(b"writing a burst, ", text);
-    report::octets(t, &octets, expected)
+    report::octets(t, b"writing a burst, ", text, &octets, expected)
 }
 
 fn not_written(t: Tally, text: &[u8], colour: u8, datatype: u8) -> Tally
     ensures { λ r. ⌜ r .cases ≡ (t .cases + 1) % 2 ^ 32 ⌝ }
 {
     let number = burst::write(colour, datatype, info(), Sync::Base).number;
-    report::name(b"writing a burst, ", text);
-    report::number(t, 2, report::wide(number), 16)
+    report::number(t, b"writing a burst, ", text, 2, report::wide(number), 16)
 }
 
 fn read(t: Tally, text: &[u8], octets: &[u8]) -> Tally
     ensures { λ r. ⌜ r .cases ≡ (t .cases + 1) % 2 ^ 32 ⌝ }
 {
     let found = burst::read(octets).info;
-    report::name(b"reading a burst, ", text);
-    report::octets(t, &found, &info())
+    report::octets(t, b"reading a burst, ", text, &found, &info())
 }
 
 fn refused(t: Tally, text: &[u8], octets: &[u8], expected: u32) -> Tally
     ensures { λ r. ⌜ r .cases ≡ (t .cases + 1) % 2 ^ 32 ⌝ }
 {
-    report::name(b"reading a burst, ", text);
-    report::number(t, 1, report::wide(burst::read(octets).number), expected)
+    report::number(
+        t,
+        b"reading a burst, ",
+        text,
+        1,
+        report::wide(burst::read(octets).number),
+        expected,
+    )
 }
 
 fn written_bursts(mut t: Tally) -> Tally
@@ -98,8 +101,14 @@ fn labels() -> Labels {
 fn carried(t: Tally, text: &[u8], octets: &[u8], expected: u32) -> Tally
     ensures { λ r. ⌜ r .cases ≡ (t .cases + 1) % 2 ^ 32 ⌝ }
 {
-    report::name(b"reading a datagram, ", text);
-    report::number(t, 1, report::wide(datagrams::read(octets).number), expected)
+    report::number(
+        t,
+        b"reading a datagram, ",
+        text,
+        1,
+        report::wide(datagrams::read(octets).number),
+        expected,
+    )
 }
 
 // The datagram of these labels and the burst above.
@@ -111,8 +120,7 @@ fn written_datagram(t: Tally) -> Tally
     ensures { λ r. ⌜ r .cases ≡ (t .cases + 1) % 2 ^ 32 ⌝ }
 {
     let octets = datagrams::write(labels(), 1, 6, info(), Sync::Base).octets;
-    report::name(b"writing a datagram", b"");
-    report::octets(t, &octets, &datagram_octets())
+    report::octets(t, b"writing a datagram", b"", &octets, &datagram_octets())
 }
 
 // What it reads as, and the counter of the next one.
@@ -121,12 +129,23 @@ fn read_datagram(mut t: Tally) -> Tally
 {
     let found = datagrams::read(&datagram_octets());
     let got = found.info;
-    report::name(b"reading this datagram, ", b"information");
-    t = report::octets(t, &got, &info());
-    report::name(b"reading this datagram, ", b"stream");
-    t = report::number(t, 8, found.labels.stream, 0xCAFE0001);
-    report::name(b"sequence counter after ", b"ff");
-    report::number(t, 2, report::wide(datagrams::next_sequence(255)), 0)
+    t = report::octets(t, b"reading this datagram, ", b"information", &got, &info());
+    t = report::number(
+        t,
+        b"reading this datagram, ",
+        b"stream",
+        8,
+        found.labels.stream,
+        0xCAFE0001,
+    );
+    report::number(
+        t,
+        b"sequence counter after ",
+        b"ff",
+        2,
+        report::wide(datagrams::next_sequence(255)),
+        0,
+    )
 }
 
 fn damaged_datagrams(mut t: Tally) -> Tally

@@ -9,7 +9,7 @@ mod burst_cases;
 mod packet_cases;
 mod receiver_cases;
 
-// Writes a line for each case and counts on from t. It also promises that the definitions give the worked examples that are marked P.
+// Writes a line for each case and counts on from t. It also promises that the definitions give the worked examples of PExamples.
 pub fn cases(t: report::Tally) -> report::Tally
     ensures { λ r. ⌜ (r .cases ≡ (t .cases + 52) % 2 ^ 32) × PExamples ⌝ }
 {

@@ -43,8 +43,14 @@ fn sized(octets: usize) -> u32 {
 fn size(t: Tally, text: &[u8], octets: usize, expected: u32) -> Tally
     ensures { λ r. ⌜ r .cases ≡ (t .cases + 1) % 2 ^ 32 ⌝ }
 {
-    report::name(b"blocks and pad of a message, octets ", text);
-    report::number(t, 4, sized(octets), expected)
+    report::number(
+        t,
+        b"blocks and pad of a message, octets ",
+        text,
+        4,
+        sized(octets),
+        expected,
+    )
 }
 
 fn sizes(mut t: Tally) -> Tally
@@ -66,8 +72,7 @@ fn block_of(t: Tally, text: &[u8], n: usize, expected: &[u8]) -> Tally
     ensures { λ r. ⌜ r .cases ≡ (t .cases + 1) % 2 ^ 32 ⌝ }
 {
     let octets = message::block(b"TARE -12.5 mm", n).octets;
-    report::name(b"TARE -12.5 mm, ", text);
-    report::octets(t, &octets, expected)
+    report::octets(t, b"TARE -12.5 mm, ", text, &octets, expected)
 }
 
 // The message of 13 octets in two blocks, with the headers of a whole and of a repeat attempt.
@@ -76,15 +81,17 @@ fn message_octets(mut t: Tally) -> Tally
 {
     let full = message::full_header(13, delivery()).octets;
     let partial = message::partial_header(13, delivery(), 1).octets;
-    report::name(b"TARE -12.5 mm, ", b"header");
     t = report::octets(
         t,
+        b"TARE -12.5 mm, ",
+        b"header",
         &full,
         b"\x43\x43\x00\x21\x04\x1a\x0b\x0c\x82\x58\xdd\xc0",
     );
-    report::name(b"TARE -12.5 mm, ", b"header of a repeat of one block");
     t = report::octets(
         t,
+        b"TARE -12.5 mm, ",
+        b"header of a repeat of one block",
         &partial,
         b"\x43\x43\x00\x21\x04\x1a\x0b\x0c\x01\x58\x93\x0b",
     );
@@ -113,8 +120,14 @@ fn header_number(octets: &[u8]) -> u32 {
 fn read_header(t: Tally, text: &[u8], octets: &[u8], expected: u32) -> Tally
     ensures { λ r. ⌜ r .cases ≡ (t .cases + 1) % 2 ^ 32 ⌝ }
 {
-    report::name(b"reading a header, ", text);
-    report::number(t, 1, header_number(octets), expected)
+    report::number(
+        t,
+        b"reading a header, ",
+        text,
+        1,
+        header_number(octets),
+        expected,
+    )
 }
 
 fn headers(mut t: Tally) -> Tally
@@ -139,16 +152,23 @@ fn refused_headers(mut t: Tally) -> Tally
 fn read_block(t: Tally, text: &[u8], octets: &[u8], expected: u32) -> Tally
     ensures { λ r. ⌜ r .cases ≡ (t .cases + 1) % 2 ^ 32 ⌝ }
 {
-    report::name(b"reading a block, ", text);
-    report::number(t, 1, report::wide(block::read(octets).number), expected)
+    report::number(
+        t,
+        b"reading a block, ",
+        text,
+        1,
+        report::wide(block::read(octets).number),
+        expected,
+    )
 }
 
 fn write_block(t: Tally, text: &[u8], serial: u8, octets: &[u8], expected: u32) -> Tally
     ensures { λ r. ⌜ r .cases ≡ (t .cases + 1) % 2 ^ 32 ⌝ }
 {
-    report::name(b"writing a block, ", text);
     report::number(
         t,
+        b"writing a block, ",
+        text,
         2,
         report::wide(block::write(serial, octets).number),
         expected,
@@ -181,8 +201,7 @@ fn reply(t: Tally, text: &[u8], kind: Reply, expected: &[u8]) -> Tally
     ensures { λ r. ⌜ r .cases ≡ (t .cases + 1) % 2 ^ 32 ⌝ }
 {
     let octets = response::write(kind, back(), flags()).header;
-    report::name(b"response, N(S) 5, ", text);
-    report::octets(t, &octets, expected)
+    report::octets(t, b"response, N(S) 5, ", text, &octets, expected)
 }
 
 fn replies(mut t: Tally) -> Tally
@@ -212,9 +231,10 @@ fn sack_block(t: Tally) -> Tally
     ensures { λ r. ⌜ r .cases ≡ (t .cases + 1) % 2 ^ 32 ⌝ }
 {
     let data = response::write(Reply::Sack, back(), flags()).block;
-    report::name(b"data block of this SACK, ", b"block 1 of 3 missing");
     report::octets(
         t,
+        b"data block of this SACK, ",
+        b"block 1 of 3 missing",
         &data,
         b"\xfd\xff\xff\xff\xff\xff\xff\xff\x00\xb6\xae\x30",
     )
@@ -223,9 +243,10 @@ fn sack_block(t: Tally) -> Tally
 fn heard(t: Tally, text: &[u8], header: &[u8], data: &[u8], expected: u32) -> Tally
     ensures { λ r. ⌜ r .cases ≡ (t .cases + 1) % 2 ^ 32 ⌝ }
 {
-    report::name(b"reading a response, ", text);
     report::number(
         t,
+        b"reading a response, ",
+        text,
         1,
         report::wide(response::read(header, data).number),
         expected,
@@ -239,8 +260,13 @@ fn readings(mut t: Tally) -> Tally
     let sack = b"\x01\x40\x1a\x0b\x0c\x00\x21\x04\x01\x85\x80\x8d";
     let data = b"\xfd\xff\xff\xff\xff\xff\xff\xff\x00\xb6\xae\x30";
     let found = response::read(sack, data).flags;
-    report::name(b"reading a response, ", b"flags of the SACK");
-    t = report::octets(t, &found, &flags());
+    t = report::octets(
+        t,
+        b"reading a response, ",
+        b"flags of the SACK",
+        &found,
+        &flags(),
+    );
     heard(t, b"ACK and no data, number", ack, b"", 0)
 }
 

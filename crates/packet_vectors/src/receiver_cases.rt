@@ -50,36 +50,53 @@ fn looped(store: &mut [u8]) -> u32 {
 }
 
 // The octets that stand in front in a store.
-fn front(t: Tally, store: &[u8], expected: &[u8]) -> Tally
+fn front(t: Tally, subject: &[u8], text: &[u8], store: &[u8], expected: &[u8]) -> Tally
     ensures { λ r. ⌜ r .cases ≡ (t .cases + 1) % 2 ^ 32 ⌝ }
 {
     let n = expected.len();
     if store.len() < n {
-        return report::octets(t, store, expected);
+        return report::octets(t, subject, text, store, expected);
     }
-    report::octets(t, &store[..n], expected)
+    report::octets(t, subject, text, &store[..n], expected)
 }
 
-pub fn cases(mut t: Tally) -> Tally
-    ensures { λ r. ⌜ r .cases ≡ (t .cases + 4) % 2 ^ 32 ⌝ }
+fn responses(mut t: Tally) -> Tally
+    ensures { λ r. ⌜ r .cases ≡ (t .cases + 2) % 2 ^ 32 ⌝ }
 {
     let r = response();
-    report::name(b"end of attempt, block 1 of 3 missing", b"");
     t = report::octets(
         t,
+        b"end of attempt, block 1 of 3 missing",
+        b"",
         &r.header,
         b"\x01\x40\x1A\x0B\x0C\x00\x21\x04\x01\x85\x80\x8D",
     );
-    report::name(b"its data block", b"");
-    t = report::octets(
+    report::octets(
         t,
+        b"its data block",
+        b"",
         &r.block,
         b"\xFD\xFF\xFF\xFF\xFF\xFF\xFF\xFF\x00\xB6\xAE\x30",
-    );
+    )
+}
+
+fn messages(mut t: Tally) -> Tally
+    ensures { λ r. ⌜ r .cases ≡ (t .cases + 2) % 2 ^ 32 ⌝ }
+{
     let mut store = [0u8; STORE];
     let n = looped(&mut store);
-    report::name(b"TARE -12.5 mm, octets handed on", b"");
-    t = report::number(t, 1, n, 13);
-    report::name(b"the message in the store", b"");
-    front(t, &store, b"TARE -12.5 mm")
+    t = report::number(t, b"TARE -12.5 mm, octets handed on", b"", 1, n, 13);
+    front(
+        t,
+        b"the message in the store",
+        b"",
+        &store,
+        b"TARE -12.5 mm",
+    )
+}
+
+pub fn cases(t: Tally) -> Tally
+    ensures { λ r. ⌜ r .cases ≡ (t .cases + 4) % 2 ^ 32 ⌝ }
+{
+    messages(responses(t))
 }

@@ -10,3 +10,4 @@ pub mod Reserved
 pub mod HeaderClaims
 pub mod BlockBack
 pub mod BlockClaims
+pub mod Examples

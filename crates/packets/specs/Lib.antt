@@ -3,3 +3,4 @@ pub mod Blocks
 pub mod HeaderClaims
 pub mod BlockClaims
 pub mod Parts
+pub mod Examples

@@ -6,3 +6,4 @@ pub mod SavingBack
 pub mod Claims
 pub mod SaveLaw
 pub mod Numbers
+pub mod Examples

@@ -1,3 +1,4 @@
 pub mod Stored
 pub mod Claims
 pub mod Parts
+pub mod Examples

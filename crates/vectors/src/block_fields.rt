@@ -69,11 +69,11 @@ fn deciding(field: [u8; 25]) -> Places
 }
 
 // The case of the first n places.
-fn first(t: Tally, n: usize, at: [u8; 196], expected: &[u8]) -> Tally
+fn first(t: Tally, subject: &[u8], text: &[u8], n: usize, at: [u8; 196], expected: &[u8]) -> Tally
     requires { ⌜ n ≤ 196 ⌝ }
     ensures { λ r. ⌜ r .cases ≡ (t .cases + 1) % 2 ^ 32 ⌝ }
 {
-    report::positions(t, &at[..n], expected)
+    report::positions(t, subject, text, &at[..n], expected)
 }
 
 fn sent_at(t: Tally, text: &[u8], field: [u8; 25], expected: &[u8]) -> Tally
@@ -81,16 +81,21 @@ fn sent_at(t: Tally, text: &[u8], field: [u8; 25], expected: &[u8]) -> Tally
 {
     let found = deciding(field);
     let at = found.at;
-    report::name(b"sent positions of plain positions ", text);
-    first(t, found.n, at, expected)
+    first(
+        t,
+        b"sent positions of plain positions ",
+        text,
+        found.n,
+        at,
+        expected,
+    )
 }
 
 fn written(t: Tally, text: &[u8], info: [u8; 12], expected: &[u8]) -> Tally
     ensures { λ r. ⌜ r .cases ≡ (t .cases + 1) % 2 ^ 32 ⌝ }
 {
     let field = block_field::write(info);
-    report::name(b"writing ", text);
-    report::octets(t, &field, expected)
+    report::octets(t, b"writing ", text, &field, expected)
 }
 
 // What a field reads as: its 12 octets, or the number of its refusal in one.
@@ -98,27 +103,24 @@ fn read(t: Tally, text: &[u8], field: &[u8], expected: &[u8]) -> Tally
     ensures { λ r. ⌜ r .cases ≡ (t .cases + 1) % 2 ^ 32 ⌝ }
 {
     let found = block_field::read(field);
-    report::name(b"reading ", text);
     if found.number != 0 {
         let number = [found.number];
-        return report::octets(t, &number, expected);
+        return report::octets(t, b"reading ", text, &number, expected);
     }
     let info = found.info;
-    report::octets(t, &info, expected)
+    report::octets(t, b"reading ", text, &info, expected)
 }
 
 fn refused(t: Tally, text: &[u8], field: &[u8], expected: u32) -> Tally
     ensures { λ r. ⌜ r .cases ≡ (t .cases + 1) % 2 ^ 32 ⌝ }
 {
-    report::name(b"reading ", text);
-    report::number(t, 1, number_of(field), expected)
+    report::number(t, b"reading ", text, 1, number_of(field), expected)
 }
 
 fn parity(t: Tally, text: &[u8], value: u32, expected: u32) -> Tally
     ensures { λ r. ⌜ r .cases ≡ (t .cases + 1) % 2 ^ 32 ⌝ }
 {
-    report::name(b"parity of ", text);
-    report::number(t, 1, value, expected)
+    report::number(t, b"parity of ", text, 1, value, expected)
 }
 
 // The data bits are those of row 1, of row 0 and of column 3. Their parity is in columns 11 to 14, and in rows 9 to 12.
@@ -142,13 +144,22 @@ fn last_bit(mut t: Tally) -> Tally
     let found = ones(block_field::write(*b"\0\0\0\0\0\0\0\0\0\0\0\x01"));
     let at = found.at;
     let expected = [131u8, 134, 135, 176, 179, 180, 191, 194, 195];
-    report::name(b"number of ones, ", b"96 bits, only the last 1");
-    t = report::number(t, 1, found.n as u32, 9);
-    report::name(
+    t = report::number(
+        t,
+        b"number of ones, ",
+        b"96 bits, only the last 1",
+        1,
+        found.n as u32,
+        9,
+    );
+    first(
+        t,
         b"plain positions of the ones, ",
         b"96 bits, only the last 1",
-    );
-    first(t, found.n, at, &expected)
+        found.n,
+        at,
+        &expected,
+    )
 }
 
 // Plain positions 1, 2 and 3 are R(2), R(1) and R(0). They are always written 0, so the reader shows where they are sent. Each field

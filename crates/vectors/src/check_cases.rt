@@ -10,51 +10,89 @@ fn wide(x: u16) -> u32 {
 fn header(t: Tally, text: &[u8], mask: u16, octets: &[u8], expected: u32) -> Tally
     ensures { λ r. ⌜ r .cases ≡ (t .cases + 1) % 2 ^ 32 ⌝ }
 {
-    report::name(b"header check of ", text);
-    report::number(t, 4, wide(checks::header(mask, octets)), expected)
+    report::number(
+        t,
+        b"header check of ",
+        text,
+        4,
+        wide(checks::header(mask, octets)),
+        expected,
+    )
 }
 
 fn good_header(t: Tally, text: &[u8], mask: u16, octets: &[u8], expected: bool) -> Tally
     ensures { λ r. ⌜ r .cases ≡ (t .cases + 1) % 2 ^ 32 ⌝ }
 {
-    report::name(b"good header, ", text);
-    report::answer(t, checks::header_good(mask, octets), expected)
+    report::answer(
+        t,
+        b"good header, ",
+        text,
+        checks::header_good(mask, octets),
+        expected,
+    )
 }
 
 fn block(t: Tally, text: &[u8], serial: u8, octets: &[u8], expected: u32) -> Tally
     ensures { λ r. ⌜ r .cases ≡ (t .cases + 1) % 2 ^ 32 ⌝ }
 {
-    report::name(b"block check of ", text);
-    report::number(t, 3, wide(checks::block(serial, octets)), expected)
+    report::number(
+        t,
+        b"block check of ",
+        text,
+        3,
+        wide(checks::block(serial, octets)),
+        expected,
+    )
 }
 
 fn good_block(t: Tally, text: &[u8], octets: &[u8], expected: bool) -> Tally
     ensures { λ r. ⌜ r .cases ≡ (t .cases + 1) % 2 ^ 32 ⌝ }
 {
-    report::name(b"good block, ", text);
-    report::answer(t, checks::block_good(octets), expected)
+    report::answer(
+        t,
+        b"good block, ",
+        text,
+        checks::block_good(octets),
+        expected,
+    )
 }
 
 fn message(t: Tally, text: &[u8], octets: &[u8], expected: u32) -> Tally
     ensures { λ r. ⌜ r .cases ≡ (t .cases + 1) % 2 ^ 32 ⌝ }
 {
-    report::name(b"message check of ", text);
-    report::number(t, 8, checks::message(octets), expected)
+    report::number(
+        t,
+        b"message check of ",
+        text,
+        8,
+        checks::message(octets),
+        expected,
+    )
 }
 
 fn message_octets(t: Tally, text: &[u8], octets: &[u8], expected: &[u8]) -> Tally
     ensures { λ r. ⌜ r .cases ≡ (t .cases + 1) % 2 ^ 32 ⌝ }
 {
     let found = checks::message_octets(octets);
-    report::name(b"octets of the message check of ", text);
-    report::octets(t, &found, expected)
+    report::octets(
+        t,
+        b"octets of the message check of ",
+        text,
+        &found,
+        expected,
+    )
 }
 
 fn good_message(t: Tally, text: &[u8], octets: &[u8], expected: bool) -> Tally
     ensures { λ r. ⌜ r .cases ≡ (t .cases + 1) % 2 ^ 32 ⌝ }
 {
-    report::name(b"good message, ", text);
-    report::answer(t, checks::message_good(octets), expected)
+    report::answer(
+        t,
+        b"good message, ",
+        text,
+        checks::message_good(octets),
+        expected,
+    )
 }
 
 // Mask ffff undoes the inversion, so 31c3 is the CCITT remainder of 123456789 itself, the published value.

@@ -17,22 +17,26 @@ fn reading(word: u32) -> u32 {
 fn written(t: Tally, text: &[u8], octet: u8, expected: u32) -> Tally
     ensures { λ r. ⌜ r .cases ≡ (t .cases + 1) % 2 ^ 32 ⌝ }
 {
-    report::name(b"slot type ", text);
-    report::number(t, 5, slot_type::write(octet), expected)
+    report::number(t, b"slot type ", text, 5, slot_type::write(octet), expected)
 }
 
 fn read(t: Tally, text: &[u8], word: u32, expected: u32) -> Tally
     ensures { λ r. ⌜ r .cases ≡ (t .cases + 1) % 2 ^ 32 ⌝ }
 {
-    report::name(b"reading slot word ", text);
-    report::number(t, 2, reading(word), expected)
+    report::number(t, b"reading slot word ", text, 2, reading(word), expected)
 }
 
 fn refused(t: Tally, text: &[u8], word: u32, expected: u32) -> Tally
     ensures { λ r. ⌜ r .cases ≡ (t .cases + 1) % 2 ^ 32 ⌝ }
 {
-    report::name(b"reading slot word ", text);
-    report::number(t, 1, reading(word) / 256, expected)
+    report::number(
+        t,
+        b"reading slot word ",
+        text,
+        1,
+        reading(word) / 256,
+        expected,
+    )
 }
 
 // How many octets read back from their slot types.
@@ -87,8 +91,14 @@ fn corrections(mut t: Tally) -> Tally
 fn all_octets(t: Tally) -> Tally
     ensures { λ r. ⌜ r .cases ≡ (t .cases + 1) % 2 ^ 32 ⌝ }
 {
-    report::name(b"octets that read back from ", b"their slot types");
-    report::number(t, 3, read_back(), 0x100)
+    report::number(
+        t,
+        b"octets that read back from ",
+        b"their slot types",
+        3,
+        read_back(),
+        0x100,
+    )
 }
 
 fn refusals(mut t: Tally) -> Tally

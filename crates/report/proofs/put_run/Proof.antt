@@ -8,10 +8,10 @@ use Rattle.report.proofs.put_run.Statement.{statement}
 use Rattle.report.proofs.put_run.Tie as tie
 
 abbrev Inv-loop : tie.InvT-loop
-Inv-loop decimal run i₀ i-end i = (i ≤ i-end) × (i-end ≡ length run)
+Inv-loop decimal run all₀ i₀ i-end all i = (i ≤ i-end) × (i-end ≡ length run)
 
 abbrev μ-loop : tie.MeasureT-loop
-μ-loop decimal run i₀ i-end i = i-end - i
+μ-loop decimal run all₀ i₀ i-end all i = i-end - i
 
 loop-holds : tie.Need-loop-holds Inv-loop μ-loop
 loop-holds c = search needs
