@@ -58,7 +58,7 @@ module _ (l : Listing) (g : Gateway) (store os : List ℕ) (last : Bool) (text :
       × ListClaims l (running g store) os last text out store′ text′
 
   no-claims : ListClaims l (running g store) os last text (record { number = 1; gateway = g; taken = 0; end = 0 }) store text
-  no-claims = record { goes-on = λ z. absurd (omega (arith, z)); counts-go-on = λ z. absurd (omega (arith, z)); by-rule = λ z. absurd (omega (arith, z)) }
+  no-claims = record { goes-on = λ z. absurd (omega (arith, z)); counts-go-on = λ z. absurd (omega (arith, z)); by-rule = λ z. absurd (omega (arith, z)); ends = omega arith; takes = omega arith }
 
   refusal : listNumber l store text ≡ 1 → Lists (record { number = 1; gateway = g; taken = 0; end = 0 }) store text
   unfolding list storeAfter textAfter
@@ -88,9 +88,12 @@ module _ (l : Listing) (g : Gateway) (store os : List ℕ) (last : Bool) (text :
         unfolding answered
         fits = ek
 
+        inside : end ≤ length text
+        inside = omega (arith, few, count-room l last (length os) (length text) k fits)
+
         front : take end text′ ≡ linesOf l (running g store) (cut k os)
         front =
-            wrote-front _ text end text′ (omega (arith, wrote .0, few, count-room l last (length os) (length text) k fits)) wrote
+            wrote-front _ text end text′ (omega (arith, wrote .0, inside)) wrote
 
         the-claims : ListClaims l (running g store) os last text given store′ text′
         the-claims = record {
@@ -100,6 +103,8 @@ module _ (l : Listing) (g : Gateway) (store os : List ℕ) (last : Bool) (text :
           counts-go-on = λ z before e. ap (λ (s : Running). s .gateway .counts) left ∙ counts-go-on (running g store) (cut k os) before e
               ∙ ap (λ (n : ℕ). countsOf (before ++ answersGiven (running g store) (cut n os))) ek;
           by-rule = λ z own first past small size e. by-rule own first past small size (running g store) e (cut (answered l last os text) os);
+          ends = inside;
+          takes = unfold octetsOf in omega (arith, et);
         }
 
         pub lists : Lists given store′ text′

@@ -3,7 +3,7 @@
 use mathlib.Core.Path.{_≡_}
 use mathlib.Core.Bool.{Bool, true}
 use mathlib.Core.List.{List, [], _++_}
-use Prim.Native.Nat.{ℕ, _^_, _<_}
+use Prim.Native.Nat.{ℕ, _^_, _≤_, _<_}
 use lib.ListN.{length, take, drop}
 use Rattle.addresses.specs.Octets.{addressAt}
 use Rattle.receiver_state.specs.Receiver.{storeSize}
@@ -37,8 +37,10 @@ ByRule l s os last r text =
     → outcomes s (cut (answered l last os text) os)
     ≡ outcomesByRule (addressAt own 0) (historyOver (addressAt own 0) nothing past) (cut (answered l last os text) os)
 
--- all three, of what `list` gives
+-- all of these, of what `list` gives; and that it ends inside the text and takes no more than there is
 pub record ListClaims (l : Listing) (s : Running) (os : List ℕ) (last : Bool) (text : List ℕ) (r : Listed) (store′ text′ : List ℕ) : Type 0 where
   pub goes-on : GoesOn l s os last r store′ text′
   pub counts-go-on : CountsGoOn l s os last r text
   pub by-rule : ByRule l s os last r text
+  pub ends : r .end ≤ length text
+  pub takes : r .taken ≤ length os

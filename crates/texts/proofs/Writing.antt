@@ -28,6 +28,10 @@ module _ (d : List ℕ) (at : ℕ) (os : List ℕ) where
   unfolding endAt
   end-outside h = rw (lt-leb (at + length os) (length d) h)
 
+  pub end-within : at ≤ length d → endAt d at os ≤ length d
+  unfolding endAt
+  end-within h = either (leb (at + length os) (length d)) (λ t. rw t (leb-true (at + length os) (length d) t)) (λ t. rw t h)
+
 -- ---- one part behind the other
 
 put-put : (d a b : List ℕ) (at : ℕ) → at + (length a + length b) ≤ length d → put (put d at a) (at + length a) b ≡ put d at (a ++ b)

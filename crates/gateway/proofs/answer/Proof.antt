@@ -1,65 +1,78 @@
--- `answer` writes within the text: two numbers, a space and the end of the line.
+-- `gateway::answer` meets its contract.
 -- Assumes nothing.
-use mathlib.Core.Path.{_∙_}
+use mathlib.Core.Path.{_≡_, sym, ap, _∙_}
+use mathlib.Core.List.{List}
+use Prim.Native.Nat.{ℕ}
 use native.Mathlib.Omega.{arith}
-use lib.ListN.{length-set}
+use lib.Seq.{length-take-le}
+use lib.ListN.{length, take, drop}
+use Rattle.captures.specs.declared.Listed.{Listed}
+use Rattle.inputs.proofs.Moving.{rest-first}
 use borrow.Author.Needs.{needs}
 use Rattle.gateway.proofs.answer.Statement.{statement}
 use Rattle.gateway.proofs.answer.Tie as tie
 
-on-datagram-requires : tie.Need-on-datagram-requires
-on-datagram-requires c κs = search needs
+slice-reshare-prefix-list : tie.Need-slice-reshare-prefix-list
+slice-reshare-prefix-list c = search needs
 
-put-decimal-requires : tie.Need-put-decimal-requires
-put-decimal-requires c κs = search needs
+slice-aggregate-list : tie.Need-slice-aggregate-list
+slice-aggregate-list c = sym (length-take-le _ _ (c .before .before .before .before .before .pre))
 
-slice-write-text : tie.Need-slice-write-text
-slice-write-text c = search needs
+list-requires : tie.Need-list-requires
+list-requires c κs = search needs
 
-add-put-decimal : tie.Need-add-put-decimal
-add-put-decimal c = search needs
+slice-reshare-prefix-write-all : tie.Need-slice-reshare-prefix-write-all
+slice-reshare-prefix-write-all c = search needs
 
-number-of-requires : tie.Need-number-of-requires
-number-of-requires c κs = search needs
+slice-aggregate-write-all : tie.Need-slice-aggregate-write-all
+slice-aggregate-write-all c = let l = c .before .before .before .before .before .list in sym (length-take-le _ _ (omega (arith, l .ensures .3 .ends, l .kept .1 .1 .1 .1 .1 .0)))
 
-cast-put-decimal : tie.Need-cast-put-decimal
-cast-put-decimal c = search needs
+write-all-requires : tie.Need-write-all-requires
+write-all-requires c κs = search needs
 
-put-decimal-requires-2 : tie.Need-put-decimal-requires-2
-put-decimal-requires-2 c κs = search needs
+slice-relend-prefix-to-front : tie.Need-slice-relend-prefix-to-front
+slice-relend-prefix-to-front c = search needs
 
-slice-write-text-2 : tie.Need-slice-write-text-2
-slice-write-text-2 c = omega (arith, simp length-set at (c .before .before .put-decimal2 .kept .0))
+slice-aggregate-to-front : tie.Need-slice-aggregate-to-front
+slice-aggregate-to-front c = sym (length-take-le _ _ (c .before .before .before .before .before .before .before .before .before .before .before .before .before .before .pre))
 
-counted-requires : tie.Need-counted-requires
-counted-requires c κs = search needs
-
-add-t21 : tie.Need-add-t21
-add-t21 c = omega (arith, simp length-set at (c .before .before .before .put-decimal2 .kept .0), c .before .before .before .before .before .before .before .before .before .before .before .before .before .before .before .before .before .before .before .before .good)
+to-front-requires : tie.Need-to-front-requires
+to-front-requires c κs = search needs
 
 same-length : tie.Need-same-length
 same-length c = search needs
 
 same-length-2 : tie.Need-same-length-2
-same-length-2 c = simp length-set ((simp length-set at (c .before .before .before .put-decimal2 .kept .0)) ∙ c .before .before .before .before .before .before .before .before .put-decimal .kept .0)
+same-length-2 c = search needs
+
+same-length-3 : tie.Need-same-length-3
+same-length-3 c = search needs
 
 returns : tie.Need-returns
-returns c = search needs
+returns c =
+    let a = c .before .before .before .before .before .before .before .before .before .before .before .before .before .before .before .before .before .before .args in
+    let l = c .before .before .before .before .before .before .before .before .before .before .before .list in
+    let f = c .before .before .before .to-front in (
+      ap (λ (x : Listed). x .gateway) (l .ensures .0),
+      rest-first (take (a .size) (a .input .now)) (l .result .taken) (f .result) _ _ (f .ensures .0) (f .ensures .1)
+          ∙ ap (λ (x : Listed). drop (x .taken) (take (a .size) (a .input .now))) (l .ensures .0),
+      omega (arith, f .ensures .0, length-take-le (a .size) (a .input .now) (c .before .before .before .before .before .before .before .before .before .before .before .before .before .before .before .before .before .before .pre)),
+    )
 
 pub answer-spec : {M : Type 1} → statement M
 answer-spec =
     tie.close
     (tie.spec
-    on-datagram-requires
-    put-decimal-requires
-    slice-write-text
-    add-put-decimal
-    number-of-requires
-    cast-put-decimal
-    put-decimal-requires-2
-    slice-write-text-2
-    counted-requires
-    add-t21
+    slice-reshare-prefix-list
+    slice-aggregate-list
+    list-requires
+    slice-reshare-prefix-write-all
+    slice-aggregate-write-all
+    write-all-requires
+    slice-relend-prefix-to-front
+    slice-aggregate-to-front
+    to-front-requires
     same-length
     same-length-2
+    same-length-3
     returns)

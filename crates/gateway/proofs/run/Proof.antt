@@ -1,17 +1,18 @@
--- `run` ends, since its turns are counted down, and lends arrays of the sizes that are asked.
+-- `gateway::run` meets its contract.
 -- Assumes nothing.
-use mathlib.Core.Path.{_≡_}
-use Prim.Native.Nat.{_*_, _≤_}
+use mathlib.Core.Path.{_≡_, _∙_}
 use lib.ListN.{length}
+use Prim.Native.Nat.{_≤_}
+use native.Mathlib.Omega.{arith}
 use borrow.Author.Needs.{needs}
 use Rattle.gateway.proofs.run.Statement.{statement}
 use Rattle.gateway.proofs.run.Tie as tie
 
 abbrev Inv-loop : tie.InvT-loop
-Inv-loop store₀ input₀ text₀ now₀ begun₀ turns₀ store input text now begun turns = (length store ≡ 630) × (length input ≡ 53 * 1024) × (length text ≡ 48 * 1024) × (begun ≤ 53 * 1024)
+Inv-loop store₀ input₀ text₀ now₀ kept₀ turns₀ t12 t13 store input text now kept turns = (length store ≡ 630) × (length input ≡ 54272) × (length text ≡ 25600) × (kept ≤ 54272)
 
 abbrev μ-loop : tie.MeasureT-loop
-μ-loop store₀ input₀ text₀ now₀ begun₀ turns₀ store input text now begun turns = turns
+μ-loop store₀ input₀ text₀ now₀ kept₀ turns₀ t12 t13 store input text now kept turns = turns
 
 loop-holds : tie.Need-loop-holds Inv-loop μ-loop
 loop-holds c = search needs
@@ -22,56 +23,67 @@ slice-aggregate-read-behind c = search needs
 read-behind-requires : tie.Need-read-behind-requires Inv-loop μ-loop
 read-behind-requires c κs = search needs
 
-add-size : tie.Need-add-size Inv-loop μ-loop
-add-size c = search needs
+slice-aggregate-fail : tie.Need-slice-aggregate-fail Inv-loop μ-loop
+slice-aggregate-fail c = search needs
 
-slice-aggregate-answer-all : tie.Need-slice-aggregate-answer-all Inv-loop μ-loop
-slice-aggregate-answer-all c = search needs
+fail-requires : tie.Need-fail-requires Inv-loop μ-loop
+fail-requires c κs = search needs
 
-slice-aggregate-answer-all-2 : tie.Need-slice-aggregate-answer-all-2 Inv-loop μ-loop
-slice-aggregate-answer-all-2 c = search needs
-
-slice-aggregate-answer-all-3 : tie.Need-slice-aggregate-answer-all-3 Inv-loop μ-loop
-slice-aggregate-answer-all-3 c = search needs
-
-answer-all-requires : tie.Need-answer-all-requires Inv-loop μ-loop
-answer-all-requires c κs = search needs
+close-requires : tie.Need-close-requires Inv-loop μ-loop
+close-requires c κs = search needs
 
 returns : tie.Need-returns Inv-loop μ-loop
 returns c = search needs
 
-sub-whole : tie.Need-sub-whole Inv-loop μ-loop
-sub-whole c = search needs
+slice-aggregate-answer : tie.Need-slice-aggregate-answer Inv-loop μ-loop
+slice-aggregate-answer c = search needs
 
-slice-aggregate-answer-all-4 : tie.Need-slice-aggregate-answer-all-4 Inv-loop μ-loop
-slice-aggregate-answer-all-4 c = search needs
+slice-aggregate-answer-2 : tie.Need-slice-aggregate-answer-2 Inv-loop μ-loop
+slice-aggregate-answer-2 c = search needs
 
-slice-aggregate-answer-all-5 : tie.Need-slice-aggregate-answer-all-5 Inv-loop μ-loop
-slice-aggregate-answer-all-5 c = search needs
+slice-aggregate-answer-3 : tie.Need-slice-aggregate-answer-3 Inv-loop μ-loop
+slice-aggregate-answer-3 c = search needs
 
-slice-aggregate-answer-all-6 : tie.Need-slice-aggregate-answer-all-6 Inv-loop μ-loop
-slice-aggregate-answer-all-6 c = search needs
+answer-requires : tie.Need-answer-requires Inv-loop μ-loop
+answer-requires c κs = let r = c .before .before .before .before .before .read-behind in omega (arith, r .ensures .inside (omega (arith, c .before .before .before .before .before .before .before .before .loop .inv .1, c .before .before .before .before .before .before .before .before .loop .inv .3)), r .kept .0, c .before .before .before .before .before .before .before .before .loop .inv .1)
 
-answer-all-requires-2 : tie.Need-answer-all-requires-2 Inv-loop μ-loop
-answer-all-requires-2 c κs = search needs
+slice-aggregate-fail-2 : tie.Need-slice-aggregate-fail-2 Inv-loop μ-loop
+slice-aggregate-fail-2 c = search needs
 
-slice-aggregate-to-front : tie.Need-slice-aggregate-to-front Inv-loop μ-loop
-slice-aggregate-to-front c = search needs
+fail-requires-2 : tie.Need-fail-requires-2 Inv-loop μ-loop
+fail-requires-2 c κs = search needs
 
-to-front-requires : tie.Need-to-front-requires Inv-loop μ-loop
-to-front-requires c κs = search needs
+close-requires-2 : tie.Need-close-requires-2 Inv-loop μ-loop
+close-requires-2 c κs = search needs
+
+returns-2 : tie.Need-returns-2 Inv-loop μ-loop
+returns-2 c = search needs
+
+close-requires-3 : tie.Need-close-requires-3 Inv-loop μ-loop
+close-requires-3 c κs = search needs
+
+returns-3 : tie.Need-returns-3 Inv-loop μ-loop
+returns-3 c = search needs
 
 sub-turns : tie.Need-sub-turns Inv-loop μ-loop
 sub-turns c = search needs
 
 loop-less : tie.Need-loop-less Inv-loop μ-loop
-loop-less c = search needs
+loop-less c = omega arith
 
 loop-again : tie.Need-loop-again Inv-loop μ-loop
-loop-again c = search needs
+loop-again c =
+    let r = c .before .before .before .before .before .before .before .before .before .before .before .before .before .read-behind in
+    let l = c .before .before .before .before .before .before .before .before .before .before .before .before .before .before .before .before .loop in
+    let w = c .before .before .before .before .before .before .before .answer in
+    let size = r .ensures .inside (omega (arith, l .inv .1, l .inv .3)) in
+    (w .kept .1 .0 ∙ l .inv .0, w .kept .1 .1 .0 ∙ r .kept .0 ∙ l .inv .1, w .kept .1 .1 .1 .1 .1 .0 ∙ l .inv .2, omega (arith, size, w .ensures .2, l .inv .1))
 
-returns-2 : tie.Need-returns-2 Inv-loop μ-loop
-returns-2 c = search needs
+close-requires-4 : tie.Need-close-requires-4 Inv-loop μ-loop
+close-requires-4 c κs = search needs
+
+returns-4 : tie.Need-returns-4 Inv-loop μ-loop
+returns-4 c = search needs
 
 pub run-spec : {M : Type 1} → statement M
 run-spec =
@@ -82,20 +94,22 @@ run-spec =
     loop-holds
     slice-aggregate-read-behind
     read-behind-requires
-    add-size
-    slice-aggregate-answer-all
-    slice-aggregate-answer-all-2
-    slice-aggregate-answer-all-3
-    answer-all-requires
+    slice-aggregate-fail
+    fail-requires
+    close-requires
     returns
-    sub-whole
-    slice-aggregate-answer-all-4
-    slice-aggregate-answer-all-5
-    slice-aggregate-answer-all-6
-    answer-all-requires-2
-    slice-aggregate-to-front
-    to-front-requires
+    slice-aggregate-answer
+    slice-aggregate-answer-2
+    slice-aggregate-answer-3
+    answer-requires
+    slice-aggregate-fail-2
+    fail-requires-2
+    close-requires-2
+    returns-2
+    close-requires-3
+    returns-3
     sub-turns
     loop-less
     loop-again
-    returns-2)
+    close-requires-4
+    returns-4)
