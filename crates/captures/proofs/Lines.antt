@@ -25,7 +25,7 @@ use Rattle.counting.specs.Counts.{answerNumber}
 use Rattle.captures.specs.declared.Listing.{Listing}
 use Rattle.captures.specs.declared.Listing.the-variants.{Numbers, Deliveries}
 use Rattle.captures.specs.Lines.{numberLine, endLine, sourcePart, sizePart, messageLine, badLine, deliveryLine, lineRoom}
-use Rattle.captures.specs.Parts.{lineText, Within}
+use Rattle.captures.specs.Parts.{lineText, AtMost}
 
 -- a number of 64 bits has at most 20 digits
 long-number : (n : ℕ) → n < 2 ^ 64 → length (decimal n) ≤ 20
@@ -33,7 +33,7 @@ long-number n h = short 19 n (omega arith)
 
 module _ (d : List ℕ) (at r : ℕ) (m : List ℕ) where
   pub number-written : (i n : ℕ) → i < 2 ^ 64 → n < 256 → at + 25 ≤ length d → Chain (decimal i ∷ blank ∷ decimal n ∷ lineFeed ∷ []) d at r m
-      → Within 25 (numberLine i n) d at r m
+      → AtMost 25 (numberLine i n) d at r m
   unfolding numberLine
   number-written i n small few room c =
       let w : Wrote (parts (decimal i ∷ blank ∷ decimal n ∷ lineFeed ∷ [])) d at r m =
@@ -76,7 +76,7 @@ module _ (d : List ℕ) (at i : ℕ) (t : Transaction) (small : i < 2 ^ 64) (wid
   module _ (r : ℕ) (m : List ℕ) where
     pub message-written : (os : List ℕ) → t .sap < 256 → length os ≤ storeSize → at + 1302 ≤ length d
         → (r2 : ℕ) (m2 : List ℕ) → Wrote (sizePart t (length os)) m1 r1 r2 m2 → Chain (blank ∷ octetsText os ∷ lineFeed ∷ []) m2 r2 r m
-        → Within 1302 (messageLine i t os) d at r m
+        → AtMost 1302 (messageLine i t os) d at r m
     unfolding messageLine
     message-written os few most room r2 m2 w2 c =
         let l1 = length-source i t small wide in
@@ -88,7 +88,7 @@ module _ (d : List ℕ) (at i : ℕ) (t : Transaction) (small : i < 2 ^ 64) (wid
         (more _ _ m1 r1 r2 m2 r m (as-put (sizePart t (length os)) m1 r1 r2 m2 (omega (arith, room-behind 8 (omega arith), l2)) w2) c)) in
         (w, omega (arith, w .0, length-parts ps, l1, l2, length-octets os))
 
-    pub bad-written : at + 1302 ≤ length d → Chain ((0x20 ∷ 0x62 ∷ 0x61 ∷ 0x64 ∷ 0x0A ∷ []) ∷ []) m1 r1 r m → Within 1302 (badLine i t) d at r m
+    pub bad-written : at + 1302 ≤ length d → Chain ((0x20 ∷ 0x62 ∷ 0x61 ∷ 0x64 ∷ 0x0A ∷ []) ∷ []) m1 r1 r m → AtMost 1302 (badLine i t) d at r m
     unfolding badLine
     bad-written room c =
         let ps = sourcePart i t ∷ (0x20 ∷ 0x62 ∷ 0x61 ∷ 0x64 ∷ 0x0A ∷ []) ∷ [] in
@@ -134,31 +134,31 @@ number-said (reception.the-variants.Refused n) store = refl
 number-said (Confirmed c) store = sym (confirmed-number c store)
 
 -- no line
-pub no-line : (k : ℕ) (d : List ℕ) (at : ℕ) → Within k [] d at at d
+pub no-line : (k : ℕ) (d : List ℕ) (at : ℕ) → AtMost k [] d at at d
 no-line k d at = (wrote-none d at, omega arith)
 
 -- a line of an answer that is another, and of a listing that is another
 module _ (i : ℕ) (t : Transaction) (store d : List ℕ) (at r : ℕ) (m : List ℕ) where
-  pub confirmed-line : (a b : receiver.Answer) → a ≡ b → Within 1302 (deliveryLine i t (Events.said b store)) d at r m
-      → Within 1302 (deliveryLine i t (Events.said a store)) d at r m
-  confirmed-line a b e w = subst (λ (x : receiver.Answer). Within 1302 (deliveryLine i t (Events.said x store)) d at r m) (sym e) w
+  pub confirmed-line : (a b : receiver.Answer) → a ≡ b → AtMost 1302 (deliveryLine i t (Events.said b store)) d at r m
+      → AtMost 1302 (deliveryLine i t (Events.said a store)) d at r m
+  confirmed-line a b e w = subst (λ (x : receiver.Answer). AtMost 1302 (deliveryLine i t (Events.said x store)) d at r m) (sym e) w
 
-  pub reception-line : (a b : reception.Answer) → a ≡ b → Within 1302 (deliveryLine i t (Reception.said b store)) d at r m
-      → Within 1302 (deliveryLine i t (Reception.said a store)) d at r m
-  reception-line a b e w = subst (λ (x : reception.Answer). Within 1302 (deliveryLine i t (Reception.said x store)) d at r m) (sym e) w
+  pub reception-line : (a b : reception.Answer) → a ≡ b → AtMost 1302 (deliveryLine i t (Reception.said b store)) d at r m
+      → AtMost 1302 (deliveryLine i t (Reception.said a store)) d at r m
+  reception-line a b e w = subst (λ (x : reception.Answer). AtMost 1302 (deliveryLine i t (Reception.said x store)) d at r m) (sym e) w
 
-  pub number-listed : (l : Listing) (a : reception.Answer) (n : ℕ) → l ≡ Numbers → n ≡ answerNumber a → Within 25 (numberLine i n) d at r m
-      → Within (lineRoom l) (lineText l i (record { said = Reception.said a store; transaction = t })) d at r m
+  pub number-listed : (l : Listing) (a : reception.Answer) (n : ℕ) → l ≡ Numbers → n ≡ answerNumber a → AtMost 25 (numberLine i n) d at r m
+      → AtMost (lineRoom l) (lineText l i (record { said = Reception.said a store; transaction = t })) d at r m
   unfolding lineRoom lineText
   number-listed l a n e f w =
-      subst (λ (x : Listing). Within (lineRoom x) (lineText x i (record { said = Reception.said a store; transaction = t })) d at r m) (sym e)
-      (subst (λ (k : ℕ). Within 25 (numberLine i k) d at r m) (f ∙ number-said a store) w)
+      subst (λ (x : Listing). AtMost (lineRoom x) (lineText x i (record { said = Reception.said a store; transaction = t })) d at r m) (sym e)
+      (subst (λ (k : ℕ). AtMost 25 (numberLine i k) d at r m) (f ∙ number-said a store) w)
 
-  pub delivery-listed : (l : Listing) (a : reception.Answer) → l ≡ Deliveries → Within 1302 (deliveryLine i t (Reception.said a store)) d at r m
-      → Within (lineRoom l) (lineText l i (record { said = Reception.said a store; transaction = t })) d at r m
+  pub delivery-listed : (l : Listing) (a : reception.Answer) → l ≡ Deliveries → AtMost 1302 (deliveryLine i t (Reception.said a store)) d at r m
+      → AtMost (lineRoom l) (lineText l i (record { said = Reception.said a store; transaction = t })) d at r m
   unfolding lineRoom lineText
   delivery-listed l a e w =
-      subst (λ (x : Listing). Within (lineRoom x) (lineText x i (record { said = Reception.said a store; transaction = t })) d at r m) (sym e) w
+      subst (λ (x : Listing). AtMost (lineRoom x) (lineText x i (record { said = Reception.said a store; transaction = t })) d at r m) (sym e) w
 
 -- the room of a line, of each listing
 pub numbers-room : (l : Listing) (k n : ℕ) → l ≡ Numbers → k + lineRoom l ≤ n → k + 25 ≤ n

@@ -20,7 +20,7 @@ use Rattle.captures.specs.declared.Listed.{Listed}
 use Rattle.captures.specs.declared.Listing.{Listing}
 use Rattle.captures.specs.declared.Listing.the-variants.{Numbers, Deliveries}
 use Rattle.captures.specs.Lines.{lineRoom}
-use Rattle.captures.specs.Captures.{datagramSize, cut, datagramsIn, wholeIn, Running, running, answersGiven, leftByAll, linesOf, printed, listNumber, answered, octetsOf, list, storeAfter, textAfter}
+use Rattle.captures.specs.Captures.{datagramSize, cut, datagramsIn, wholeIn, Running, running, answersGiven, leftByAll, linesOf, printed, listNumber, datagramsAnswered, octetsOf, list, storeAfter, textAfter}
 use Rattle.captures.specs.Claims.{ListClaims}
 use Rattle.captures.proofs.GoesOn.{goes-on, counts-go-on}
 use Rattle.captures.proofs.Rule.{by-rule}
@@ -78,14 +78,14 @@ module _ (l : Listing) (g : Gateway) (store os : List ℕ) (last : Bool) (text :
       unfolding listNumber firstFailed
       taken-on = rw (eq-eqb (length store) storeSize room, le-leb (lineRoom l) (length text) line)
 
-      module _ (k : ℕ) (ek : k ≡ answered l last os text) (g′ : Gateway) (store′ : List ℕ) (end : ℕ) (text′ : List ℕ) (taken : ℕ)
+      module _ (k : ℕ) (ek : k ≡ datagramsAnswered l last os text) (g′ : Gateway) (store′ : List ℕ) (end : ℕ) (text′ : List ℕ) (taken : ℕ)
           (left : running g′ store′ ≡ leftByAll (running g store) (cut k os)) (wrote : Wrote (linesOf l (running g store) (cut k os)) text 0 end text′)
           (few : end ≤ lineRoom l * k) (et : taken ≡ octetsOf k os) where
         abbrev given : Listed
         given = record { number = 0; gateway = g′; taken = taken; end = end }
 
         fits : k ≡ min (cond last (datagramsIn (length os)) (wholeIn (length os))) (length text / lineRoom l)
-        unfolding answered
+        unfolding datagramsAnswered
         fits = ek
 
         inside : end ≤ length text
@@ -102,7 +102,7 @@ module _ (l : Listing) (g : Gateway) (store os : List ℕ) (last : Bool) (text :
               (ap₂ (λ (s : Running) (n : ℕ). printed l s (drop n os ++ more)) (sym left) (sym et));
           counts-go-on = λ z before e. ap (λ (s : Running). s .gateway .counts) left ∙ counts-go-on (running g store) (cut k os) before e
               ∙ ap (λ (n : ℕ). countsOf (before ++ answersGiven (running g store) (cut n os))) ek;
-          by-rule = λ z own first past small size e. by-rule own first past small size (running g store) e (cut (answered l last os text) os);
+          by-rule = λ z own first past small size e. by-rule own first past small size (running g store) e (cut (datagramsAnswered l last os text) os);
           ends = inside;
           takes = unfold octetsOf in omega (arith, et);
         }
@@ -110,9 +110,9 @@ module _ (l : Listing) (g : Gateway) (store os : List ℕ) (last : Bool) (text :
         pub lists : Lists given store′ text′
         unfolding list storeAfter textAfter
         lists =
-            let gateway : g′ ≡ leftByAll (running g store) (cut (answered l last os text) os) .gateway =
+            let gateway : g′ ≡ leftByAll (running g store) (cut (datagramsAnswered l last os text) os) .gateway =
             ap (λ (s : Running). s .gateway) left ∙ ap (λ (n : ℕ). leftByAll (running g store) (cut n os) .gateway) ek in
-            let ended : end ≡ length (linesOf l (running g store) (cut (answered l last os text) os)) =
+            let ended : end ≡ length (linesOf l (running g store) (cut (datagramsAnswered l last os text) os)) =
             wrote .0 ∙ zero-add _ ∙ ap (λ (n : ℕ). length (linesOf l (running g store) (cut n os))) ek in
             rw taken-on (
               λ i. record { number = 0; gateway = gateway i; taken = (et ∙ ap (λ (n : ℕ). octetsOf n os) ek) i; end = ended i },

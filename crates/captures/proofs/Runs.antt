@@ -20,7 +20,7 @@ use Rattle.counting.specs.declared.Counts.{Counts}
 use Rattle.counting.specs.Counts.{counted}
 use Rattle.captures.specs.Lines.{Outcome, numberLines, numbers, deliveryLines, listed, lineRoom}
 use Rattle.captures.specs.Captures.{datagramSize, cut, Running, running, answerGiven, leftBy, outcomeOf, leftByAll, outcomes, linesOf}
-use Rattle.captures.specs.Parts.{lineText, Within}
+use Rattle.captures.specs.Parts.{lineText, AtMost}
 use Rattle.captures.proofs.Lines.{within-store}
 
 -- ---- one datagram more
@@ -50,16 +50,16 @@ lines-cons l s d ds =
 -- the step, from what the receiver gave and what was counted and written
 pub answered-step : (l : Listing) (g : Gateway) (store d text : List ℕ) (at : ℕ) (x : Received) (store′ : List ℕ) (c : Counts) (r : ℕ) (text′ : List ℕ)
     → x ≡ onDatagram (g .receiver) store d .received → store′ ≡ onDatagram (g .receiver) store d .store → c ≡ counted (g .counts) (x .answer)
-    → Within (lineRoom l) (lineText l (g .counts .datagrams) (record { said = said (x .answer) store′; transaction = x .receiver .transaction })) text at r text′
+    → AtMost (lineRoom l) (lineText l (g .counts .datagrams) (record { said = said (x .answer) store′; transaction = x .receiver .transaction })) text at r text′
     → (running (record { receiver = x .receiver; counts = c }) store′ ≡ leftBy (running g store) d)
-    × Within (lineRoom l) (lineText l (g .counts .datagrams) (outcomeOf (running g store) d)) text at r text′
+    × AtMost (lineRoom l) (lineText l (g .counts .datagrams) (outcomeOf (running g store) d)) text at r text′
 unfolding leftBy outcomeOf answerGiven
 answered-step l g store d text at x store′ c r text′ ex es ec w =
     let counts = ec ∙ ap (λ (y : Received). counted (g .counts) (y .answer)) ex in
     let outcome : _≡_ {A = Outcome} (record { said = said (x .answer) store′; transaction = x .receiver .transaction }) (outcomeOf (running g store) d) =
     λ i. record { said = said (ex i .answer) (es i); transaction = ex i .receiver .transaction } in (
       λ i. running (record { receiver = ex i .receiver; counts = counts i }) (es i),
-      subst (λ (o : Outcome). Within (lineRoom l) (lineText l (g .counts .datagrams) o) text at r text′) outcome w,
+      subst (λ (o : Outcome). AtMost (lineRoom l) (lineText l (g .counts .datagrams) o) text at r text′) outcome w,
     )
 
 -- the datagram at a place
@@ -118,7 +118,7 @@ module _ (l : Listing) (g : Gateway) (store octets text : List ℕ) (count : ℕ
 
     pub midway-more : (d : List ℕ) → i < count → d ≡ take datagramSize (drop (datagramSize * i) octets) → lineRoom l * count ≤ length text
         → (now″ : Gateway) (store″ : List ℕ) (end″ : ℕ) (text″ : List ℕ) → running now″ store″ ≡ leftBy (running now store′) d
-        → Within (lineRoom l) (lineText l (now .counts .datagrams) (outcomeOf (running now store′) d)) text′ end end″ text″
+        → AtMost (lineRoom l) (lineText l (now .counts .datagrams) (outcomeOf (running now store′) d)) text′ end end″ text″
         → length store″ ≡ storeSize → Midway l g store octets text count (i + 1) now″ store″ end″ text″
     unfolding leftByAll
     midway-more d h e room now″ store″ end″ text″ left w size =

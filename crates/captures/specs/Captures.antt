@@ -95,8 +95,8 @@ unfoldable pub listNumber : Listing → List ℕ → List ℕ → ℕ
 listNumber l store text = firstFailed ((eqb (length store) storeSize, 1) ∷ (leb (lineRoom l) (length text), 1) ∷ [])
 
 -- how many datagrams are answered: those that have come whole, or all where nothing follows; no more than there is room for
-unfoldable pub answered : Listing → Bool → List ℕ → List ℕ → ℕ
-answered l last os text = min (cond last (datagramsIn (length os)) (wholeIn (length os))) (length text / lineRoom l)
+unfoldable pub datagramsAnswered : Listing → Bool → List ℕ → List ℕ → ℕ
+datagramsAnswered l last os text = min (cond last (datagramsIn (length os)) (wholeIn (length os))) (length text / lineRoom l)
 
 -- the octets that they take
 unfoldable pub octetsOf : ℕ → List ℕ → ℕ
@@ -106,17 +106,17 @@ octetsOf k os = min (datagramSize * k) (length os)
 unfoldable pub list : Listing → Gateway → List ℕ → List ℕ → Bool → List ℕ → Listed
 list l g store os last text =
     let s = running g store in
-    let ds = cut (answered l last os text) os in
+    let ds = cut (datagramsAnswered l last os text) os in
     cond (eqb (listNumber l store text) 0)
-    (record { number = 0; gateway = leftByAll s ds .gateway; taken = octetsOf (answered l last os text) os; end = length (linesOf l s ds) })
+    (record { number = 0; gateway = leftByAll s ds .gateway; taken = octetsOf (datagramsAnswered l last os text) os; end = length (linesOf l s ds) })
     (record { number = listNumber l store text; gateway = g; taken = 0; end = 0 })
 
 unfoldable pub storeAfter : Listing → Gateway → List ℕ → List ℕ → Bool → List ℕ → List ℕ
 storeAfter l g store os last text =
     cond (eqb (listNumber l store text) 0)
-    (leftByAll (running g store) (cut (answered l last os text) os) .store) store
+    (leftByAll (running g store) (cut (datagramsAnswered l last os text) os) .store) store
 
 unfoldable pub textAfter : Listing → Gateway → List ℕ → List ℕ → Bool → List ℕ → List ℕ
 textAfter l g store os last text =
     cond (eqb (listNumber l store text) 0)
-    (put text 0 (linesOf l (running g store) (cut (answered l last os text) os))) text
+    (put text 0 (linesOf l (running g store) (cut (datagramsAnswered l last os text) os))) text

@@ -12,7 +12,7 @@ use Rattle.reception.specs.declared.Answer.{Answer}
 use Rattle.counting.specs.Counts.{countsOf}
 use Rattle.captures.specs.declared.Listing.{Listing}
 use Rattle.captures.specs.declared.Listed.{Listed}
-use Rattle.captures.specs.Captures.{cut, started, Running, running, answersGiven, leftByAll, outcomes, printed, answered}
+use Rattle.captures.specs.Captures.{cut, started, Running, running, answersGiven, leftByAll, outcomes, printed, datagramsAnswered}
 use Rattle.captures.specs.Rule.{outcomesByRule, historyOver}
 
 -- whatever follows these octets: the whole text is what is written now, and then the whole text of the octets not yet answered and of what
@@ -27,15 +27,15 @@ GoesOn l s os last r store text =
 abbrev pub CountsGoOn : Listing → Running → List ℕ → Bool → Listed → List ℕ → Type 0
 CountsGoOn l s os last r text =
     r .number ≡ 0 → (given : List Answer) → s .gateway .counts ≡ countsOf given
-    → r .gateway .counts ≡ countsOf (given ++ answersGiven s (cut (answered l last os text) os))
+    → r .gateway .counts ≡ countsOf (given ++ answersGiven s (cut (datagramsAnswered l last os text) os))
 
 -- by the history rule: what is told of the datagrams, after any datagrams from a start with any store
 abbrev pub ByRule : Listing → Running → List ℕ → Bool → Listed → List ℕ → Type 0
 ByRule l s os last r text =
     r .number ≡ 0 → (own first : List ℕ) (past : List (List ℕ)) → addressAt own 0 .0 < 2 ^ 24 → length first ≡ storeSize
     → s ≡ leftByAll (running (started own) first) past
-    → outcomes s (cut (answered l last os text) os)
-    ≡ outcomesByRule (addressAt own 0) (historyOver (addressAt own 0) nothing past) (cut (answered l last os text) os)
+    → outcomes s (cut (datagramsAnswered l last os text) os)
+    ≡ outcomesByRule (addressAt own 0) (historyOver (addressAt own 0) nothing past) (cut (datagramsAnswered l last os text) os)
 
 -- all of these, of what `list` gives; and that it ends inside the text and takes no more than there is
 pub record ListClaims (l : Listing) (s : Running) (os : List ℕ) (last : Bool) (text : List ℕ) (r : Listed) (store′ text′ : List ℕ) : Type 0 where

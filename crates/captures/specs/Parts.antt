@@ -14,5 +14,5 @@ lineText Numbers i o = numberLine i (numberOf (o .said))
 lineText Deliveries i o = deliveryLine i (o .transaction) (o .said)
 
 -- what is written, and that it takes no more than k octets
-abbrev pub Within : ℕ → List ℕ → List ℕ → ℕ → ℕ → List ℕ → Type 0
-Within k os d at r m = Wrote os d at r m × (r ≤ at + k)
+abbrev pub AtMost : ℕ → List ℕ → List ℕ → ℕ → ℕ → List ℕ → Type 0
+AtMost k os d at r m = Wrote os d at r m × (r ≤ at + k)

@@ -9,7 +9,7 @@ ghost use Rattle.receiver.specs.Events.{said as receiver·said};
 ghost use Rattle.reception.specs.Reception.{said};
 ghost use Rattle.texts.specs.Texts.{endAt, Wrote};
 ghost use Rattle.captures.specs.Lines.{numberLine, endLine, sourcePart, sizePart, messageLine, badLine, deliveryLine, lineRoom};
-ghost use Rattle.captures.specs.Parts.{lineText, Within};
+ghost use Rattle.captures.specs.Parts.{lineText, AtMost};
 ghost use Rattle.captures.specs.Captures.{datagramsIn, wholeIn, running, started, leftBy, outcomeOf, cut, leftByAll, linesOf, storeAfter, textAfter};
 ghost use Rattle.captures.specs.Captures.{list as Captures·list};
 ghost use Rattle.captures.specs.Claims.{ListClaims};
@@ -62,7 +62,7 @@ pub fn start(own: &[u8]) -> Gateway
 // Index and number of a datagram.
 fn put_number(text: &mut [u8], at: usize, index: u64, number: u8) -> usize
     requires { ⌜ at + 25 ≤ length (now text) ⌝ }
-    ensures { λ r. ⌜ Within 25 (numberLine index number) (now (text .entry)) at r (now (text .exit)) ⌝ }
+    ensures { λ r. ⌜ AtMost 25 (numberLine index number) (now (text .entry)) at r (now (text .exit)) ⌝ }
 {
     let space = texts::put_decimal(text, at, index);
     let second = texts::put_word(text, space, b" ");
@@ -95,7 +95,7 @@ fn put_size(text: &mut [u8], at: usize, t: Transaction, size: usize) -> usize
 // A message's line: index, source, SAP, length and octets.
 fn put_message(text: &mut [u8], at: usize, index: u64, t: Transaction, message: &[u8]) -> usize
     requires { ⌜ (at + 1302 ≤ length (now text)) × (length (now message) ≤ storeSize) ⌝ }
-    ensures { λ r. ⌜ Within 1302 (messageLine index t (now (message .entry))) (now (text .entry)) at r (now (text .exit)) ⌝ }
+    ensures { λ r. ⌜ AtMost 1302 (messageLine index t (now (message .entry))) (now (text .entry)) at r (now (text .exit)) ⌝ }
 {
     let size = message.len();
     let first = put_source(text, at, index, t);
@@ -108,7 +108,7 @@ fn put_message(text: &mut [u8], at: usize, index: u64, t: Transaction, message: 
 // A bad message's line: index, source and the word.
 fn put_bad(text: &mut [u8], at: usize, index: u64, t: Transaction) -> usize
     requires { ⌜ at + 1302 ≤ length (now text) ⌝ }
-    ensures { λ r. ⌜ Within 1302 (badLine index t) (now (text .entry)) at r (now (text .exit)) ⌝ }
+    ensures { λ r. ⌜ AtMost 1302 (badLine index t) (now (text .entry)) at r (now (text .exit)) ⌝ }
 {
     let first = put_source(text, at, index, t);
     texts::put_word(text, first, b" bad\n")
@@ -124,7 +124,7 @@ fn put_confirmed(
     store: &[u8],
 ) -> usize
     requires { ⌜ (at + 1302 ≤ length (now text)) × (length (now store) ≡ storeSize) ⌝ }
-    ensures { λ r. ⌜ Within 1302 (deliveryLine index t (receiver·said a (now (store .entry)))) (now (text .entry)) at r (now (text .exit)) ⌝ }
+    ensures { λ r. ⌜ AtMost 1302 (deliveryLine index t (receiver·said a (now (store .entry)))) (now (text .entry)) at r (now (text .exit)) ⌝ }
 {
     match a {
         event::Answer::Refused(_) => at,
@@ -160,7 +160,7 @@ fn put_line(
     store: &[u8],
 ) -> usize
     requires { ⌜ (at + lineRoom listing ≤ length (now text)) × (length (now store) ≡ storeSize) ⌝ }
-    ensures { λ r. ⌜ Within (lineRoom listing) (lineText listing index (record { said = said a (now (store .entry)); transaction = t })) (now (text .entry)) at r (now (text .exit)) ⌝ }
+    ensures { λ r. ⌜ AtMost (lineRoom listing) (lineText listing index (record { said = said a (now (store .entry)); transaction = t })) (now (text .entry)) at r (now (text .exit)) ⌝ }
 {
     match listing {
         Listing::Numbers => put_number(text, at, index, counting::number_of(a)),
@@ -178,7 +178,7 @@ fn put_delivery(
     store: &[u8],
 ) -> usize
     requires { ⌜ (at + 1302 ≤ length (now text)) × (length (now store) ≡ storeSize) ⌝ }
-    ensures { λ r. ⌜ Within 1302 (deliveryLine index t (said a (now (store .entry)))) (now (text .entry)) at r (now (text .exit)) ⌝ }
+    ensures { λ r. ⌜ AtMost 1302 (deliveryLine index t (said a (now (store .entry)))) (now (text .entry)) at r (now (text .exit)) ⌝ }
 {
     match a {
         Answer::Refused(_) => at,
@@ -228,7 +228,7 @@ fn answer(
 ) -> Step
     requires { ⌜ (at + lineRoom listing ≤ length (now text)) × (length (now store) ≡ storeSize) ⌝ }
     ensures { λ r. ⌜ (running (r .gateway) (now (store .exit)) ≡ leftBy (running g (now (store .entry))) (now (datagram .entry)))
-        × Within (lineRoom listing) (lineText listing (g .counts .datagrams) (outcomeOf (running g (now (store .entry))) (now (datagram .entry))))
+        × AtMost (lineRoom listing) (lineText listing (g .counts .datagrams) (outcomeOf (running g (now (store .entry))) (now (datagram .entry))))
         (now (text .entry)) at (r .end) (now (text .exit)) ⌝ }
 {
     let rx = g.receiver;

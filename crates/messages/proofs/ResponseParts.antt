@@ -15,7 +15,7 @@ use Rattle.foundation.proofs.Copying.{put-all, put-both}
 use Rattle.checks.specs.Checks.{messageCheck, lowestFirst, headerGood, messageGood}
 use Rattle.packets.specs.Headers.{headerMask, part, formatOf, commonOf, headerOf, knownFormat, readHeader, writtenHeader, widthNumber, writeHeader}
 use Rattle.messages.specs.Responses.{replyCode, responseHeader, sackData, responseData, writeResponse, isSack, refusedResponse, readResponse}
-use Rattle.messages.specs.ResponseClaims.{GoodHeader, Outcome, header-size, header-check, header-format, block-size, block-check, header-alone, header-and-block}
+use Rattle.messages.specs.ResponseClaims.{GoodHeader, ResponseRow, header-size, header-check, header-format, block-size, block-check, header-alone, header-and-block}
 use Rattle.messages.specs.Parts.{answerWith, answerBeside, responseBy, answerAfter}
 use Rattle.packets.specs.declared.header.Common.{Common}
 use Rattle.packets.specs.declared.header.Header.{Header}
@@ -132,10 +132,10 @@ module _ (h b : List ℕ) where
   unfolding isSack
   other-class s = eqb-false _ 2 s
 
-  refused-is : (n : ℕ) → Outcome h b n → n ≢ 0 → refusedResponse n ≡ readResponse h b
+  refused-is : (n : ℕ) → ResponseRow h b n → n ≢ 0 → refusedResponse n ≡ readResponse h b
   refused-is n o z = ap refusedResponse (sym (outcome-number h b o)) ∙ sym (read-refused h b (λ e. z (sym (outcome-number h b o) ∙ e)))
 
-  fields-is : (flags : List ℕ) → Outcome h b 0 → flags ≡ cond (isSack h) (take 8 b) (replicate 8 0)
+  fields-is : (flags : List ℕ) → ResponseRow h b 0 → flags ≡ cond (isSack h) (take 8 b) (replicate 8 0)
       → answerWith (commonOf h) (part 6 2 (getD h 9 0)) (part 3 3 (getD h 9 0)) (part 0 3 (getD h 9 0)) flags ≡ readResponse h b
   fields-is flags o f = ap (answerWith (commonOf h) _ _ _) f ∙ sym (read-accepted h b (outcome-number h b o))
 
@@ -144,7 +144,7 @@ module _ (h b : List ℕ) where
   unfolding answerAfter
   after-is = go (number-outcome h b)
     where
-      go : {n : ℕ} → Outcome h b n → answerAfter (readHeader h) b ≡ readResponse h b
+      go : {n : ℕ} → ResponseRow h b n → answerAfter (readHeader h) b ≡ readResponse h b
       go (header-size e) = by-header (Refused 1) (size-refused h e) ∙ refused-is 1 (header-size e) (λ z. omega arith)
       go (header-check e f) = by-header (Refused 8) (check-refused h e f) ∙ refused-is 8 (header-check e f) (λ z. omega arith)
       go (header-format e f g) = after-format (knownFormat (formatOf h)) refl e f g ∙ refused-is 9 (header-format e f g) (λ z. omega arith)

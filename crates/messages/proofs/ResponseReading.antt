@@ -18,7 +18,7 @@ use Rattle.packets.specs.Headers.{headerMask, part, formatOf, commonOf, written
 use Rattle.packets.specs.Parts.{commonFields}
 use Rattle.messages.specs.MessageClaims.{Within}
 use Rattle.messages.specs.Responses.{replyCode, responseHeader, sackData, responseData, writeResponse, isSack, responseNumber, refusedResponse, readResponse}
-use Rattle.messages.specs.ResponseClaims.{flagsOf, answerOf, ResponseReadsBack, GoodHeader, Outcome, header-size, header-check, header-format, block-size, block-check, header-alone, header-and-block}
+use Rattle.messages.specs.ResponseClaims.{flagsOf, answerOf, ResponseReadsBack, GoodHeader, ResponseRow, header-size, header-check, header-format, block-size, block-check, header-alone, header-and-block}
 use Rattle.messages.specs.Parts.{answerWith}
 use Rattle.messages.specs.declared.message.Delivery.{Delivery}
 use Rattle.messages.specs.declared.response.Reply.{Reply}
@@ -39,7 +39,7 @@ module _ (h b : List ℕ) where
   after-header g = rw (eq-eqb (length h) 12 (g .size), g .check, eq-eqb (formatOf h) 1 (g .format))
 
   -- the number that each outcome says
-  pub outcome-number : {n : ℕ} → Outcome h b n → responseNumber h b ≡ n
+  pub outcome-number : {n : ℕ} → ResponseRow h b n → responseNumber h b ≡ n
   unfolding responseNumber firstFailed
   outcome-number (header-size e) = rw (ne-eqb (length h) 12 e)
   outcome-number (header-check e f) = rw (eq-eqb (length h) 12 e, f)
@@ -50,38 +50,38 @@ module _ (h b : List ℕ) where
   outcome-number (header-and-block g s e f) = after-header g ∙ rw (s, eq-eqb (length b) 12 e, f)
 
   -- one of them applies
-  block-outcome : GoodHeader h → (n : ℕ) × Outcome h b n
+  block-outcome : GoodHeader h → (n : ℕ) × ResponseRow h b n
   block-outcome g = sack (true-or-false (isSack h))
     where
-      message : isSack h ≡ true → length b ≡ 12 → (messageGood b ≡ true) ⊎ (messageGood b ≡ false) → (n : ℕ) × Outcome h b n
+      message : isSack h ≡ true → length b ≡ 12 → (messageGood b ≡ true) ⊎ (messageGood b ≡ false) → (n : ℕ) × ResponseRow h b n
       message s e (inl f) = (0, header-and-block g s e f)
       message s e (inr f) = (13, block-check g s e f)
 
-      size : isSack h ≡ true → Dec (length b ≡ 12) → (n : ℕ) × Outcome h b n
+      size : isSack h ≡ true → Dec (length b ≡ 12) → (n : ℕ) × ResponseRow h b n
       size s (yes e) = message s e (true-or-false (messageGood b))
       size s (no e) = (1, block-size g s e)
 
-      sack : (isSack h ≡ true) ⊎ (isSack h ≡ false) → (n : ℕ) × Outcome h b n
+      sack : (isSack h ≡ true) ⊎ (isSack h ≡ false) → (n : ℕ) × ResponseRow h b n
       sack (inl s) = size s (ℕ-discrete (length b) 12)
       sack (inr s) = (0, header-alone g s)
 
-  some-outcome : (n : ℕ) × Outcome h b n
+  some-outcome : (n : ℕ) × ResponseRow h b n
   some-outcome = size (ℕ-discrete (length h) 12)
     where
-      format : length h ≡ 12 → headerGood headerMask h ≡ true → Dec (formatOf h ≡ 1) → (n : ℕ) × Outcome h b n
+      format : length h ≡ 12 → headerGood headerMask h ≡ true → Dec (formatOf h ≡ 1) → (n : ℕ) × ResponseRow h b n
       format e f (yes g) = block-outcome (record { size = e; check = f; format = g })
       format e f (no g) = (9, header-format e f g)
 
-      check : length h ≡ 12 → (headerGood headerMask h ≡ true) ⊎ (headerGood headerMask h ≡ false) → (n : ℕ) × Outcome h b n
+      check : length h ≡ 12 → (headerGood headerMask h ≡ true) ⊎ (headerGood headerMask h ≡ false) → (n : ℕ) × ResponseRow h b n
       check e (inl f) = format e f (ℕ-discrete (formatOf h) 1)
       check e (inr f) = (8, header-check e f)
 
-      size : Dec (length h ≡ 12) → (n : ℕ) × Outcome h b n
+      size : Dec (length h ≡ 12) → (n : ℕ) × ResponseRow h b n
       size (yes e) = check e (true-or-false (headerGood headerMask h))
       size (no e) = (1, header-size e)
 
-  pub number-outcome : Outcome h b (responseNumber h b)
-  number-outcome = subst (Outcome h b) (sym (outcome-number (some-outcome .1))) (some-outcome .1)
+  pub number-outcome : ResponseRow h b (responseNumber h b)
+  number-outcome = subst (ResponseRow h b) (sym (outcome-number (some-outcome .1))) (some-outcome .1)
 
   pub read-refused : responseNumber h b ≢ 0 → readResponse h b ≡ refusedResponse (responseNumber h b)
   unfolding readResponse
@@ -103,8 +103,8 @@ module _ (h b : List ℕ) where
       go (no e) = ap (λ (a : ResponseAnswer). a .number) (read-refused e)
 
   -- each number is given exactly where an outcome says it
-  pub number-exactly : (n : ℕ) → (readResponse h b .number ≡ n) ↔ Outcome h b n
-  number-exactly n = (λ e. subst (Outcome h b) (sym read-number ∙ e) number-outcome, λ o. read-number ∙ outcome-number o)
+  pub number-exactly : (n : ℕ) → (readResponse h b .number ≡ n) ↔ ResponseRow h b n
+  number-exactly n = (λ e. subst (ResponseRow h b) (sym read-number ∙ e) number-outcome, λ o. read-number ∙ outcome-number o)
 
   pub refused-zeros : readResponse h b .number ≢ 0 → readResponse h b ≡ refusedResponse (readResponse h b .number)
   refused-zeros e = read-refused (λ z. e (read-number ∙ z)) ∙ ap refusedResponse (sym read-number)

@@ -46,14 +46,14 @@ pub record GoodHeader (h : List ℕ) : Type 0 where
   pub format : formatOf h ≡ 1
 
 -- when reading header octets h and block octets b gives which number: the header's size, check and format, then for a SACK its block's size and check
-pub data Outcome (h b : List ℕ) : ℕ → Type 0 where
-  header-size : length h ≢ 12 → Outcome h b 1
-  header-check : length h ≡ 12 → headerGood headerMask h ≡ false → Outcome h b 8
-  header-format : length h ≡ 12 → headerGood headerMask h ≡ true → formatOf h ≢ 1 → Outcome h b 9
-  block-size : GoodHeader h → isSack h ≡ true → length b ≢ 12 → Outcome h b 1
-  block-check : GoodHeader h → isSack h ≡ true → length b ≡ 12 → messageGood b ≡ false → Outcome h b 13
-  header-alone : GoodHeader h → isSack h ≡ false → Outcome h b 0
-  header-and-block : GoodHeader h → isSack h ≡ true → length b ≡ 12 → messageGood b ≡ true → Outcome h b 0
+pub data ResponseRow (h b : List ℕ) : ℕ → Type 0 where
+  header-size : length h ≢ 12 → ResponseRow h b 1
+  header-check : length h ≡ 12 → headerGood headerMask h ≡ false → ResponseRow h b 8
+  header-format : length h ≡ 12 → headerGood headerMask h ≡ true → formatOf h ≢ 1 → ResponseRow h b 9
+  block-size : GoodHeader h → isSack h ≡ true → length b ≢ 12 → ResponseRow h b 1
+  block-check : GoodHeader h → isSack h ≡ true → length b ≡ 12 → messageGood b ≡ false → ResponseRow h b 13
+  header-alone : GoodHeader h → isSack h ≡ false → ResponseRow h b 0
+  header-and-block : GoodHeader h → isSack h ≡ true → length b ≡ 12 → messageGood b ≡ true → ResponseRow h b 0
 
 pub record ResponseClaims : Type 0 where
   -- with fields within their widths a response is written
@@ -70,6 +70,6 @@ pub record ResponseClaims : Type 0 where
   -- no block is looked at but that of a SACK
   pub unlooked : (h b b′ : List ℕ) → isSack h ≡ false → readResponse h b ≡ readResponse h b′
   -- each number is given exactly where an outcome says it
-  pub numbers : (h b : List ℕ) (n : ℕ) → (readResponse h b .number ≡ n) ↔ Outcome h b n
+  pub numbers : (h b : List ℕ) (n : ℕ) → (readResponse h b .number ≡ n) ↔ ResponseRow h b n
   -- a refusal has zeros beside its number
   pub refused : (h b : List ℕ) → readResponse h b .number ≢ 0 → readResponse h b ≡ refusedResponse (readResponse h b .number)

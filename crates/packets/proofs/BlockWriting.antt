@@ -10,20 +10,20 @@ use Rattle.foundation.specs.Order.{firstFailed}
 use Rattle.checks.specs.Checks.{blockCheck}
 use Rattle.foundation.specs.Octets.{over, put}
 use Rattle.foundation.proofs.Copying.{put-fits}
-use Rattle.packets.specs.Blocks.{writtenBlock, blockPartTests, writeBlock}
+use Rattle.packets.specs.Blocks.{writtenBlock, blockWriterTests, writeBlock}
 
 module _ (serial : ℕ) (os : List ℕ) where
   pub size-refused : (length os ≡ 10 → ⊥) → record { number = 1; octets = replicate 12 0 } ≡ writeBlock serial os
-  unfolding writeBlock blockPartTests firstFailed
+  unfolding writeBlock blockWriterTests firstFailed
   size-refused n = rw (ne-eqb (length os) 10 n)
 
   module _ (size : length os ≡ 10) where
     pub serial-refused : 128 ≤ serial → record { number = 16; octets = replicate 12 0 } ≡ writeBlock serial os
-    unfolding writeBlock blockPartTests firstFailed
+    unfolding writeBlock blockWriterTests firstFailed
     serial-refused h = rw (eq-eqb (length os) 10 size, le-ltb serial 128 h)
 
     pub written : serial < 128 → record { number = 0; octets = writtenBlock serial os } ≡ writeBlock serial os
-    unfolding writeBlock blockPartTests firstFailed
+    unfolding writeBlock blockWriterTests firstFailed
     written h = rw (eq-eqb (length os) 10 size, lt-ltb serial 128 h)
 
     -- serial and check, and the data octets put behind them

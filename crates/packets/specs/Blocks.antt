@@ -30,11 +30,11 @@ unfoldable pub writtenBlock : ℕ → List ℕ → List ℕ
 writtenBlock serial os = (2 * serial + blockCheck serial os / 256) ∷ blockCheck serial os % 256 ∷ os
 
 -- what the writer tests: size, width of the serial
-unfoldable pub blockPartTests : ℕ → List ℕ → List (Bool × ℕ)
-blockPartTests serial os = (eqb (length os) 10, 1) ∷ (ltb serial 128, 16) ∷ []
+unfoldable pub blockWriterTests : ℕ → List ℕ → List (Bool × ℕ)
+blockWriterTests serial os = (eqb (length os) 10, 1) ∷ (ltb serial 128, 16) ∷ []
 
 unfoldable pub writeBlock : ℕ → List ℕ → BlockOctets
 writeBlock serial os = record {
-  number = firstFailed (blockPartTests serial os);
-  octets = cond (eqb (firstFailed (blockPartTests serial os)) 0) (writtenBlock serial os) (replicate 12 0);
+  number = firstFailed (blockWriterTests serial os);
+  octets = cond (eqb (firstFailed (blockWriterTests serial os)) 0) (writtenBlock serial os) (replicate 12 0);
 }

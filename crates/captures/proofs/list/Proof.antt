@@ -6,7 +6,7 @@ use Prim.Native.Nat.{ℕ, _*_, min, _≤_, _<_}
 use native.Mathlib.Omega.{arith}
 use lib.ListN.{length}
 use Rattle.captures.specs.declared.Listed.{Listed}
-use Rattle.captures.specs.Captures.{answered, octetsOf}
+use Rattle.captures.specs.Captures.{datagramsAnswered, octetsOf}
 use Rattle.captures.proofs.Lists.{Lists, count-room, count-inside, other-store, no-line-room, lists}
 use borrow.Author.Needs.{needs}
 use Rattle.captures.proofs.list.Statement.{statement}
@@ -55,7 +55,7 @@ same-length-2 : tie.Need-same-length-2
 same-length-2 c = search needs
 
 returns-3 : tie.Need-returns-3
-unfolding answered octetsOf
+unfolding datagramsAnswered octetsOf
 returns-3 c =
     let a = c .before .before .before .before .before .before .before .before .before .before .before .before .before .before .before .before .args in
     let w = c .before .before .before .before .before .before .answer-all in
