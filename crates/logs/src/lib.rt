@@ -1,3 +1,2 @@
-// Logs of events and restarts: what a receiver answers to a record, and the replay of a whole log by the history rule.
+// Records of a log: what a receiver answers to each, in a line of octets.
 pub mod recording;
-pub mod replaying;

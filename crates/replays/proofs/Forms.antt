@@ -15,7 +15,7 @@ use Rattle.receiver.proofs.StoreBlocks.{getD-at}
 use Rattle.stored.specs.Stored.{firstPart, heldOctets, body0, body1, storedForm, saved}
 use Rattle.history.specs.History.{History, holds, heldData}
 use Rattle.history.specs.Run.{State, savedForm}
-use Rattle.logs.specs.Log.{historyForm}
+use Rattle.replays.specs.Rule.{historyForm}
 use Rattle.history.proofs.Follows.{Follows, held-is}
 
 -- octets that are equal where they are held
