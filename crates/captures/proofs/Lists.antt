@@ -36,9 +36,21 @@ unfolding lineRoom
 some-room Numbers = λ e. omega arith
 some-room Deliveries = λ e. omega arith
 
+line-fits : (l : Listing) (n : ℕ) → lineRoom l ≤ n → 0 < n / lineRoom l
+unfolding lineRoom
+line-fits Numbers n h = omega arith
+line-fits Deliveries n h = omega arith
+
 module _ (l : Listing) (last : Bool) (size room k : ℕ) (e : k ≡ min (cond last (datagramsIn size) (wholeIn size)) (room / lineRoom l)) where
   pub count-few : k ≤ cond last (datagramsIn size) (wholeIn size)
   count-few = omega (arith, e)
+
+  -- where nothing follows, some of the octets are taken if there are any
+  some-taken : last ≡ true → lineRoom l ≤ room → (n : ℕ) → n ≡ min (datagramSize * k) size → n ≡ 0 → size ≡ 0
+  some-taken t h n en z =
+      let fit : 0 < room / lineRoom l = line-fits l room h in
+      let all : k ≡ min (datagramsIn size) (room / lineRoom l) = e ∙ ap (λ (b : Bool). min (cond b (datagramsIn size) (wholeIn size)) (room / lineRoom l)) t in
+      omega (arith, fit, all, en, z)
 
   pub count-room : lineRoom l * k ≤ room
   count-room = le-trans (mul-le-mul-left (lineRoom l) (omega (arith, e))) (room-for l room)
@@ -58,7 +70,7 @@ module _ (l : Listing) (g : Gateway) (store os : List ℕ) (last : Bool) (text :
       × ListClaims l (running g store) os last text out store′ text′
 
   no-claims : ListClaims l (running g store) os last text (record { number = 1; gateway = g; taken = 0; end = 0 }) store text
-  no-claims = record { goes-on = λ z. absurd (omega (arith, z)); counts-go-on = λ z. absurd (omega (arith, z)); by-rule = λ z. absurd (omega (arith, z)); ends = omega arith; takes = omega arith }
+  no-claims = record { goes-on = λ z. absurd (omega (arith, z)); counts-go-on = λ z. absurd (omega (arith, z)); by-rule = λ z. absurd (omega (arith, z)); ends = omega arith; takes = omega arith; takes-on = λ z. absurd (omega (arith, z)) }
 
   refusal : listNumber l store text ≡ 1 → Lists (record { number = 1; gateway = g; taken = 0; end = 0 }) store text
   unfolding list storeAfter textAfter
@@ -77,6 +89,10 @@ module _ (l : Listing) (g : Gateway) (store os : List ℕ) (last : Bool) (text :
       taken-on : listNumber l store text ≡ 0
       unfolding listNumber firstFailed
       taken-on = rw (eq-eqb (length store) storeSize room, le-leb (lineRoom l) (length text) line)
+
+      pub taken-number : list l g store os last text .number ≡ 0
+      unfolding list
+      taken-number = rw taken-on
 
       module _ (k : ℕ) (ek : k ≡ datagramsAnswered l last os text) (g′ : Gateway) (store′ : List ℕ) (end : ℕ) (text′ : List ℕ) (taken : ℕ)
           (left : running g′ store′ ≡ leftByAll (running g store) (cut k os)) (wrote : Wrote (linesOf l (running g store) (cut k os)) text 0 end text′)
@@ -105,6 +121,7 @@ module _ (l : Listing) (g : Gateway) (store os : List ℕ) (last : Bool) (text :
           by-rule = λ z own first past small size e. by-rule own first past small size (running g store) e (cut (datagramsAnswered l last os text) os);
           ends = inside;
           takes = unfold octetsOf in omega (arith, et);
+          takes-on = λ z t e. unfold octetsOf in some-taken l last (length os) (length text) k fits t line taken et e;
         }
 
         pub lists : Lists given store′ text′

@@ -37,10 +37,11 @@ ByRule l s os last r text =
     → outcomes s (cut (datagramsAnswered l last os text) os)
     ≡ outcomesByRule (addressAt own 0) (historyOver (addressAt own 0) nothing past) (cut (datagramsAnswered l last os text) os)
 
--- all of these, of what `list` gives; and that it ends inside the text and takes no more than there is
+-- all of these, of what `list` gives; and that it ends inside the text, takes no more than there is, and takes some of the last octets
 pub record ListClaims (l : Listing) (s : Running) (os : List ℕ) (last : Bool) (text : List ℕ) (r : Listed) (store′ text′ : List ℕ) : Type 0 where
   pub goes-on : GoesOn l s os last r store′ text′
   pub counts-go-on : CountsGoOn l s os last r text
   pub by-rule : ByRule l s os last r text
   pub ends : r .end ≤ length text
   pub takes : r .taken ≤ length os
+  pub takes-on : r .number ≡ 0 → last ≡ true → r .taken ≡ 0 → length os ≡ 0

@@ -1,22 +1,26 @@
 // Reads a log from standard input: own address (3 octets), then records of kind (1 octet), length (2 octets, most significant first) and
 // that many octets. For each a line with what is answered. A record that the end of the input cuts short is the last, refused with 1.
 ghost use mathlib.Core.Path.{_≡_};
-ghost use Prim.Native.Nat.{_*_, _≤_};
-ghost use lib.ListN.{length, take, drop};
-ghost use Rattle.replays.specs.Replay.{replayed};
+ghost use Prim.Native.Nat.{_≤_};
+ghost use lib.ListN.{length};
+ghost use Rattle.receiver_state.specs.Receiver.{storeSize};
+ghost use Rattle.replays.specs.Text.{lineRoom};
+ghost use Rattle.replay.specs.Reports.{Reported};
+ghost use Rattle.replay.specs.Parts.{Turned};
 use receiver_state::Receiver;
 use receiver_state::STORE;
-use replays::ROOM;
 
-// The octets of the longest record, so that one that has come whole always fits; and of so many lines that are written at a time.
-const INPUT: usize = 3 + 65535;
+// The octets of the longest record, so that one that has come whole always fits; and of text that are written at a time.
+const INPUT: usize = 65538;
 
-const TEXT: usize = 32 * ROOM;
+const TEXT: usize = 65536;
 
-// The receiver after the records that have come, how many octets are kept, and whether the lines were written.
+// The receiver after the records that are answered, how many octets are kept, how many octets of text there were, and whether they were
+// written.
 struct Turn {
     receiver: Receiver,
     kept: usize,
+    letters: usize,
     written: bool,
 }
 
@@ -30,11 +34,8 @@ fn answer(
     last: bool,
     text: &mut [u8],
 ) -> Turn
-    requires { ⌜ size ≤ length (now input) ⌝ }
-    ensures { λ r. ⌜ (r .receiver ≡ replayed rx (now (store .entry)) (take size (now (input .entry))) last (now (text .entry)) .receiver)
-        × (take (r .kept) (now (input .exit))
-        ≡ drop (replayed rx (now (store .entry)) (take size (now (input .entry))) last (now (text .entry)) .taken) (take size (now (input .entry))))
-        × (r .kept ≤ size) ⌝ }
+    requires { ⌜ (length (now store) ≡ storeSize) × (size ≤ length (now input)) × (lineRoom ≤ length (now text)) ⌝ }
+    ensures { λ r. ⌜ Turned rx (now (store .entry)) (now (input .entry)) size last r (now (store .exit)) (now (input .exit)) ⌝ }
 {
     let replayed = replays::replay(rx, store, &input[..size], last, text);
     let end = replayed.end;
@@ -44,42 +45,72 @@ fn answer(
     Turn {
         receiver,
         kept,
+        letters: end,
         written,
     }
 }
 
+// How many octets were read behind the own address and how many of text were written, modulo 2^64; whether the input was read to its end and
+// all was written; and if not, whether it was the input that failed.
+struct Ended {
+    read: u64,
+    written: u64,
+    whole: bool,
+    unread: bool,
+}
+
 // Each record is answered when its last octet is read: more is read only when none of those that have come is left. A proved loop has to end,
 // and nothing says that the input does: the turns are counted down from a number that no run uses up.
-fn run(rx: Receiver) {
+fn run(own: &[u8]) -> Ended
+    ensures { λ r. ⌜ Reported (now (own .entry)) r ⌝ }
+{
     let mut store = [0u8; STORE];
     let mut input = [0u8; INPUT];
     let mut text = [0u8; TEXT];
-    let mut now = rx;
+    let mut now = replays::start(own);
     let mut size: usize = 0;
     let mut last = false;
+    let mut read: u64 = 0;
+    let mut written: u64 = 0;
     let mut turns = u64::MAX;
     while 0 < turns {
         turns -= 1;
         let t = answer(now, &mut store, &mut input, size, last, &mut text);
         if !t.written {
-            os::fail(b"replay: standard output can't be written");
-            return;
+            return Ended {
+                read,
+                written,
+                whole: false,
+                unread: false,
+            };
         }
         now = t.receiver;
+        written = std::num::wrapping_add_u64(written, t.letters as u64);
         if t.kept < size {
             size = t.kept;
             continue;
         }
         if last {
-            return;
+            return Ended {
+                read,
+                written,
+                whole: true,
+                unread: false,
+            };
         }
         let reading = inputs::read_behind(&mut input, size);
         if reading.failed {
-            os::fail(b"replay: standard input can't be read");
-            return;
+            break;
         }
+        read = std::num::wrapping_add_u64(read, (reading.size - size) as u64);
         last = reading.size == size;
         size = reading.size;
+    }
+    Ended {
+        read,
+        written,
+        whole: false,
+        unread: true,
     }
 }
 
@@ -97,5 +128,13 @@ fn main() {
     if first.size < 3 {
         return;
     }
-    run(replays::start(&own));
+    let e = run(&own);
+    if e.whole {
+        return;
+    }
+    if e.unread {
+        os::fail(b"replay: standard input can't be read");
+        return;
+    }
+    os::fail(b"replay: standard output can't be written");
 }

@@ -91,6 +91,12 @@ module _ (last : Bool) (k : ℕ) (os : List ℕ) where
     unfolding octetsTaken
     taken-none t = rw (short, t)
 
+-- where nothing follows, some of the octets are taken if there are any
+pub some-taken : (last : Bool) (k : ℕ) (os : List ℕ) → last ≡ true → 0 < k → octetsTaken last k os ≡ 0 → length os ≡ 0
+some-taken last zero os t h e = absurd (omega arith)
+some-taken last (suc k) os t h e =
+    either (isWhole os) (λ u. absurd (omega (arith, e, taken-whole last k os u))) (λ u. sym (taken-last last k os u t) ∙ e)
+
 -- ---- a place of the octets
 
 drop-take : (k n : ℕ) (os : List ℕ) → k ≤ length os → drop k (take (k + n) os) ≡ take n (drop k os)

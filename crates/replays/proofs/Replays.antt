@@ -23,7 +23,7 @@ use Rattle.replays.specs.Text.{lineText, reportText, lineRoom}
 use Rattle.replays.specs.Replay.{lineGiven, leftBy, linesGiven, leftByAll, printed, replayNumber, recordsAnswered, replayed, storeAfter, textAfter}
 use Rattle.replays.specs.Claims.{ReplayClaims}
 use Rattle.replays.specs.declared.Replayed.{Replayed}
-use Rattle.replays.proofs.Records.{splits}
+use Rattle.replays.proofs.Records.{splits, some-taken}
 use Rattle.replays.proofs.Rule.{given-all, as-the-rule}
 use Rattle.replays.proofs.Runs.{textOf, text-cons, left-cons}
 
@@ -54,7 +54,7 @@ module _ (rx : Receiver) (store os : List ℕ) (last : Bool) (text : List ℕ) w
   refusal = record { number = 1; receiver = rx; taken = 0; end = 0 }
 
   no-claims : ReplayClaims (stateOf rx store) os last text refusal store text
-  no-claims = record { goes-on = λ z. absurd (omega (arith, z)); by-rule = λ z. absurd (omega (arith, z)); ends = omega arith; takes = omega arith }
+  no-claims = record { goes-on = λ z. absurd (omega (arith, z)); by-rule = λ z. absurd (omega (arith, z)); ends = omega arith; takes = omega arith; takes-on = λ z. absurd (omega (arith, z)) }
 
   refuses : replayNumber store text ≡ 1 → Replays refusal store text
   unfolding replayed storeAfter textAfter
@@ -73,6 +73,10 @@ module _ (rx : Receiver) (store os : List ℕ) (last : Bool) (text : List ℕ) w
       taken-on : replayNumber store text ≡ 0
       unfolding replayNumber firstFailed
       taken-on = rw (eq-eqb (length store) storeSize room, le-leb lineRoom (length text) line)
+
+      pub taken-number : replayed rx store os last text .number ≡ 0
+      unfolding replayed
+      taken-number = rw taken-on
 
       abbrev k : ℕ
       k = length text / lineRoom
@@ -103,6 +107,7 @@ module _ (rx : Receiver) (store os : List ℕ) (last : Bool) (text : List ℕ) w
               as-the-rule own first past rs small size possible (given-all last k os octets) s (stateOf rx′ store′) e left;
           ends = ends;
           takes = inside;
+          takes-on = λ z t e. some-taken last k os t (omega arith) (sym et ∙ e);
         }
 
         pub replays : Replays given store′ text′

@@ -44,9 +44,10 @@ ByRule s rs r store =
     r .number ≡ 0 → (own : RadioAddress) (first : List ℕ) (past : List Record) → own .0 < 2 ^ 24 → length first ≡ storeSize
     → Possible (actionsOf past) → s ≡ left (freshState own first) (actionsOf past) → AsTheRule own first past rs s (stateOf (r .receiver) store)
 
--- all of these, of what `replay` gives; and that it ends inside the text and takes no more than there is
+-- all of these, of what `replay` gives; and that it ends inside the text, takes no more than there is, and takes some of the last octets
 pub record ReplayClaims (s : State) (os : List ℕ) (last : Bool) (text : List ℕ) (r : Replayed) (store′ text′ : List ℕ) : Type 0 where
   pub goes-on : GoesOn s os last r store′ text′
   pub by-rule : ByRule s (recordsAnswered last os text) r store′
   pub ends : r .end ≤ length text
   pub takes : r .taken ≤ length os
+  pub takes-on : r .number ≡ 0 → last ≡ true → r .taken ≡ 0 → length os ≡ 0

@@ -1,22 +1,23 @@
--- `delivered::answer` meets its contract.
+-- `listings::answer` meets its contract.
 -- Assumes nothing.
 use mathlib.Core.Path.{_≡_, sym, ap, _∙_}
-use mathlib.Core.List.{List}
-use Prim.Native.Nat.{ℕ}
 use native.Mathlib.Omega.{arith}
 use lib.Seq.{length-take-le}
-use lib.ListN.{length, take, drop}
+use lib.ListN.{length, take}
 use Rattle.captures.specs.declared.Listed.{Listed}
+use Rattle.captures.specs.Captures.{running, printed}
+use Rattle.captures.proofs.Lists.{taken-number}
 use Rattle.inputs.proofs.Moving.{rest-first}
+use Rattle.inputs.proofs.Turns.{turn}
 use borrow.Author.Needs.{needs}
-use Rattle.delivered.proofs.answer.Statement.{statement}
-use Rattle.delivered.proofs.answer.Tie as tie
+use Rattle.listings.proofs.answer.Statement.{statement}
+use Rattle.listings.proofs.answer.Tie as tie
 
 slice-reshare-prefix-list : tie.Need-slice-reshare-prefix-list
 slice-reshare-prefix-list c = search needs
 
 slice-aggregate-list : tie.Need-slice-aggregate-list
-slice-aggregate-list c = sym (length-take-le _ _ (c .before .before .before .before .before .pre))
+slice-aggregate-list c = sym (length-take-le _ _ (c .before .before .before .before .before .pre .1))
 
 list-requires : tie.Need-list-requires
 list-requires c κs = search needs
@@ -34,7 +35,7 @@ slice-relend-prefix-to-front : tie.Need-slice-relend-prefix-to-front
 slice-relend-prefix-to-front c = search needs
 
 slice-aggregate-to-front : tie.Need-slice-aggregate-to-front
-slice-aggregate-to-front c = sym (length-take-le _ _ (c .before .before .before .before .before .before .before .before .before .before .before .before .before .before .pre))
+slice-aggregate-to-front c = sym (length-take-le _ _ (c .before .before .before .before .before .before .before .before .before .before .before .before .before .before .pre .1))
 
 to-front-requires : tie.Need-to-front-requires
 to-front-requires c κs = search needs
@@ -52,12 +53,15 @@ returns : tie.Need-returns
 returns c =
     let a = c .before .before .before .before .before .before .before .before .before .before .before .before .before .before .before .before .before .before .args in
     let l = c .before .before .before .before .before .before .before .before .before .before .before .list in
-    let f = c .before .before .before .to-front in (
-      ap (λ (x : Listed). x .gateway) (l .ensures .0),
-      rest-first (take (a .size) (a .input .now)) (l .result .taken) (f .result) _ _ (f .ensures .0) (f .ensures .1)
-          ∙ ap (λ (x : Listed). drop (x .taken) (take (a .size) (a .input .now))) (l .ensures .0),
-      omega (arith, f .ensures .0, length-take-le (a .size) (a .input .now) (c .before .before .before .before .before .before .before .before .before .before .before .before .before .before .before .before .before .before .pre)),
-    )
+    let f = c .before .before .before .to-front in
+    let p = c .before .before .before .before .before .before .before .before .before .before .before .before .before .before .before .before .before .before .pre in
+    let claims = l .ensures .3 in
+    let os = take (a .size) (a .input .now) in
+    let size = length-take-le (a .size) (a .input .now) (p .1) in
+    let number = ap (λ (x : Listed). x .number) (l .ensures .0) ∙ taken-number (a .listing) (a .g) (a .store .now) os (a .last) (a .text .now) (p .0) (p .2) in
+    turn (printed (a .listing)) (running (a .g) (a .store .now)) _ os (a .last) _ (l .result .end) (l .result .taken) (f .result) _
+    (omega (arith, claims .ends, l .kept .1 .1 .1 .1 .1 .0)) (claims .goes-on number) (claims .takes) (claims .takes-on number) (f .ensures .0)
+    (rest-first os (l .result .taken) (f .result) _ _ (f .ensures .0) (f .ensures .1))
 
 pub answer-spec : {M : Type 1} → statement M
 answer-spec =

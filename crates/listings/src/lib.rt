@@ -1,0 +1,116 @@
+// A capture on standard input, listed on standard output: what the programs gateway and delivered have in common.
+ghost use mathlib.Core.Path.{_≡_};
+ghost use Prim.Native.Nat.{_≤_};
+ghost use lib.ListN.{length};
+ghost use Rattle.receiver_state.specs.Receiver.{storeSize};
+ghost use Rattle.captures.specs.Lines.{lineRoom};
+ghost use Rattle.listings.specs.Listings.{Listed};
+ghost use Rattle.listings.specs.Parts.{Turned};
+use captures::Gateway;
+use captures::Listing;
+use counting::Counts;
+use receiver_state::STORE;
+
+// Octets that are read at a time (1,024 datagrams), and of text that are written at a time.
+const INPUT: usize = 54272;
+
+const TEXT: usize = 65536;
+
+// The gateway after the datagrams that are answered, how many octets are kept, how many octets of text there were, and whether they were
+// written.
+pub struct Turn {
+    pub gateway: Gateway,
+    pub kept: usize,
+    pub letters: usize,
+    pub written: bool,
+}
+
+// Answers the datagrams that have come, as many as there is room for: writes their lines, and keeps in front the octets that are not answered
+// yet.
+fn answer(
+    listing: Listing,
+    g: Gateway,
+    store: &mut [u8],
+    input: &mut [u8],
+    size: usize,
+    last: bool,
+    text: &mut [u8],
+) -> Turn
+    requires { ⌜ (length (now store) ≡ storeSize) × (size ≤ length (now input)) × (lineRoom listing ≤ length (now text)) ⌝ }
+    ensures { λ r. ⌜ Turned listing g (now (store .entry)) (now (input .entry)) size last r (now (store .exit)) (now (input .exit)) ⌝ }
+{
+    let listed = captures::list(listing, g, store, &input[..size], last, text);
+    let end = listed.end;
+    let written = io::write_all(libc::STDOUT_FILENO, &text[..end]);
+    let kept = inputs::to_front(&mut input[..size], listed.taken);
+    let gateway = listed.gateway;
+    Turn {
+        gateway,
+        kept,
+        letters: end,
+        written,
+    }
+}
+
+// The counts; how many octets were read behind the own address and how many of text were written, modulo 2^64; whether the input was read to
+// its end and all was written; and if not, whether it was the input that failed.
+pub struct Ended {
+    pub counts: Counts,
+    pub read: u64,
+    pub written: u64,
+    pub whole: bool,
+    pub unread: bool,
+}
+
+fn finish(g: Gateway, read: u64, written: u64, whole: bool, unread: bool) -> Ended
+    ensures { λ r. ⌜ r ≡ record { counts = g .counts; read = read; written = written; whole = whole; unread = unread } ⌝ }
+{
+    let counts = g.counts;
+    Ended {
+        counts,
+        read,
+        written,
+        whole,
+        unread,
+    }
+}
+
+// Each datagram is answered when its last octet is read: more is read only when none of those that have come is left. A proved loop has to end,
+// and nothing says that the input does: the turns are counted down from a number that no run uses up.
+pub fn run(listing: Listing, own: &[u8]) -> Ended
+    ensures { λ r. ⌜ Listed listing (now (own .entry)) r ⌝ }
+{
+    let mut store = [0u8; STORE];
+    let mut input = [0u8; INPUT];
+    let mut text = [0u8; TEXT];
+    let mut now = captures::start(own);
+    let mut size: usize = 0;
+    let mut last = false;
+    let mut read: u64 = 0;
+    let mut written: u64 = 0;
+    let mut turns = u64::MAX;
+    while 0 < turns {
+        turns -= 1;
+        let t = answer(listing, now, &mut store, &mut input, size, last, &mut text);
+        if !t.written {
+            return finish(now, read, written, false, false);
+        }
+        now = t.gateway;
+        written = std::num::wrapping_add_u64(written, t.letters as u64);
+        if t.kept < size {
+            size = t.kept;
+            continue;
+        }
+        if last {
+            return finish(now, read, written, true, false);
+        }
+        let reading = inputs::read_behind(&mut input, size);
+        if reading.failed {
+            return finish(now, read, written, false, true);
+        }
+        read = std::num::wrapping_add_u64(read, (reading.size - size) as u64);
+        last = reading.size == size;
+        size = reading.size;
+    }
+    finish(now, read, written, false, true)
+}

@@ -1,0 +1,22 @@
+-- A log on standard input, its lines on standard output.
+-- Assumes nothing.
+use mathlib.Core.Path.{_≡_}
+use mathlib.Core.Bool.{true}
+use mathlib.Core.List.{List, []}
+use Prim.Native.Nat.{ℕ}
+use lib.ListN.{replicate}
+use Rattle.addresses.specs.Octets.{addressAt}
+use Rattle.receiver_state.specs.Receiver.{storeSize, freshFor}
+use Rattle.history.specs.Run.{State}
+use Rattle.logs.specs.Log.{stateOf}
+use Rattle.replays.specs.Replay.{printed}
+use Rattle.inputs.specs.Inputs.{ReadAndWritten}
+use Rattle.replay.specs.declared.Ended.{Ended}
+
+-- a receiver of this address before its first record, over a store of zeros
+abbrev pub beginning : List ℕ → State
+beginning own = stateOf (freshFor (addressAt own 0) .receiver) (replicate storeSize 0)
+
+-- a run that came to the end of the input and wrote all: what it wrote is the text of what it read
+abbrev pub Reported : List ℕ → Ended → Type 0
+Reported own r = r .whole ≡ true → ReadAndWritten printed (beginning own) (r .read) (r .written) []
