@@ -24,7 +24,7 @@ use Rattle.reception.specs.declared.Answer.the-variants.{Confirmed}
 use Rattle.counting.specs.Counts.{answerNumber}
 use Rattle.captures.specs.declared.Listing.{Listing}
 use Rattle.captures.specs.declared.Listing.the-variants.{Numbers, Deliveries}
-use Rattle.captures.specs.Lines.{numberLine, endLine, sourcePart, sizePart, messageLine, badLine, deliveryLine, lineRoom}
+use Rattle.captures.specs.Lines.{numberLine, endLine, sourcePart, sizePart, messageLine, badLine, deliveryLine, closing, lineRoom}
 use Rattle.captures.specs.Parts.{lineText, AtMost}
 
 -- a number of 64 bits has at most 20 digits
@@ -116,6 +116,11 @@ module _ (c : Counts) (datagrams : c .datagrams < 2 ^ 64) (messages : c .message
         long-number (c .refused) refused,
       )
 
+  pub length-closing : (l : Listing) → length (closing l c) ≤ 67
+  unfolding closing
+  length-closing Numbers = length-end
+  length-closing Deliveries = omega arith
+
 -- ---- what is said
 
 -- the number that is said, whatever the store holds
@@ -159,6 +164,16 @@ module _ (i : ℕ) (t : Transaction) (store d : List ℕ) (at r : ℕ) (m : List
   unfolding lineRoom lineText
   delivery-listed l a e w =
       subst (λ (x : Listing). AtMost (lineRoom x) (lineText x i (record { said = Reception.said a store; transaction = t })) d at r m) (sym e) w
+
+-- the last line, of each listing
+module _ (l : Listing) (c : Counts) (d : List ℕ) where
+  pub numbers-closed : (r : ℕ) (m : List ℕ) → l ≡ Numbers → Put (endLine c) d 0 r m → Put (closing l c) d 0 r m
+  unfolding closing
+  numbers-closed r m e w = subst (λ (x : Listing). Put (closing x c) d 0 r m) (sym e) w
+
+  pub deliveries-closed : l ≡ Deliveries → Put (closing l c) d 0 0 d
+  unfolding closing
+  deliveries-closed e = subst (λ (x : Listing). Put (closing x c) d 0 0 d) (sym e) (as-put [] d 0 0 d (omega arith) (wrote-none d 0))
 
 -- the room of a line, of each listing
 pub numbers-room : (l : Listing) (k n : ℕ) → l ≡ Numbers → k + lineRoom l ≤ n → k + 25 ≤ n

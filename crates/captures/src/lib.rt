@@ -8,7 +8,7 @@ ghost use Rattle.receiver_state.specs.Receiver.{storeSize};
 ghost use Rattle.receiver.specs.Events.{said as receiver·said};
 ghost use Rattle.reception.specs.Reception.{said};
 ghost use Rattle.texts.specs.Texts.{endAt, Wrote};
-ghost use Rattle.captures.specs.Lines.{numberLine, endLine, sourcePart, sizePart, messageLine, badLine, deliveryLine, lineRoom};
+ghost use Rattle.captures.specs.Lines.{numberLine, endLine, sourcePart, sizePart, messageLine, badLine, deliveryLine, closing, lineRoom};
 ghost use Rattle.captures.specs.Parts.{lineText, AtMost};
 ghost use Rattle.captures.specs.Captures.{datagramsIn, wholeIn, running, started, leftBy, outcomeOf, cut, leftByAll, linesOf, storeAfter, textAfter};
 ghost use Rattle.captures.specs.Captures.{list as Captures·list};
@@ -201,12 +201,22 @@ fn put_end(c: Counts, line: &mut [u8]) -> usize
 }
 
 // The last line of a listing of numbers, at the start of the text where it has room.
-pub fn close(c: Counts, text: &mut [u8]) -> usize
+fn close_numbers(c: Counts, text: &mut [u8]) -> usize
     ensures { λ r. ⌜ (r ≡ endAt (now (text .entry)) 0 (endLine c)) × (now (text .exit) ≡ put (now (text .entry)) 0 (endLine c)) ⌝ }
 {
     let mut line = [0u8; END];
     let end = put_end(c, &mut line);
     texts::put_word(text, 0, &line[..end])
+}
+
+// The last line of a listing, if it has one, at the start of the text where it has room.
+pub fn close(listing: Listing, c: Counts, text: &mut [u8]) -> usize
+    ensures { λ r. ⌜ (r ≡ endAt (now (text .entry)) 0 (closing listing c)) × (now (text .exit) ≡ put (now (text .entry)) 0 (closing listing c)) ⌝ }
+{
+    match listing {
+        Listing::Numbers => close_numbers(c, text),
+        Listing::Deliveries => 0,
+    }
 }
 
 // ---- datagrams

@@ -14,10 +14,8 @@ fn main() {
         os::fail(b"delivered: standard input can't be read");
         return;
     }
-    if first.size < 3 {
-        return;
-    }
-    let e = listings::run(Listing::Deliveries, &own);
+    let size = first.size;
+    let e = listings::run(Listing::Deliveries, &own[..size]);
     if e.whole {
         return;
     }

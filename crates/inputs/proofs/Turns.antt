@@ -36,13 +36,14 @@ module _ {S : Type 0} (text : S → List ℕ → List ℕ) (first : S) where
           ∙ sym (append-assoc (u .written) (a .line) (text now′ (rest′ ++ m)));
     }
 
-    -- all are, and nothing follows
-    underway-ends : ended ≡ true → (last : List ℕ) → text now rest ≡ last → ReadAndWritten text first octets letters last
-    underway-ends e last l = record {
+    -- all are, and nothing follows but a last line
+    underway-ends : ended ≡ true → (last : List ℕ) → text now rest ≡ last → (letters′ : ℕ) → letters′ ≡ (letters + length last) % 2 ^ 64
+        → ReadAndWritten text first octets letters′
+    underway-ends e last l letters′ el = record {
       read = u .read;
-      written = u .written;
+      written = u .written ++ last;
       as-many = u .as-many;
-      so-long = u .so-long;
+      so-long = omega (arith, u .so-long, length-append (u .written) last, el);
       whole = ap (text first) (sym (append-nil (u .read))) ∙ u .goes-on [] (λ _. refl) ∙ ap (λ (x : List ℕ). u .written ++ text now x) (append-nil rest)
           ∙ ap (λ (x : List ℕ). u .written ++ x) l;
     }
@@ -117,6 +118,17 @@ module _ {S : Type 0} (text : S → List ℕ → List ℕ) (now : S) (input : Li
 -- nothing is kept, and nothing follows
 pub underway-over : {S : Type 0} (text : S → List ℕ → List ℕ) (first : S) (octets letters : ℕ) (ended : Bool) (now : S) (input : List ℕ) (kept : ℕ)
     → Underway text first octets letters ended now (take kept input) → ended ≡ true → kept ≡ 0 → (last : List ℕ) → text now [] ≡ last
-    → ReadAndWritten text first octets letters last
-underway-over text first octets letters ended now input kept u e z last l =
-    underway-ends text first octets letters ended now (take kept input) u e last (ap (λ (n : ℕ). text now (take n input)) z ∙ l)
+    → (letters′ : ℕ) → letters′ ≡ (letters + length last) % 2 ^ 64 → ReadAndWritten text first octets letters′
+underway-over text first octets letters ended now input kept u e z last l letters′ el =
+    underway-ends text first octets letters ended now (take kept input) u e last (ap (λ (n : ℕ). text now (take n input)) z ∙ l) letters′ el
+
+-- the same text by another definition
+pub as-text : {S T : Type 0} (text : S → List ℕ → List ℕ) (first : S) (text′ : T → List ℕ → List ℕ) (first′ : T) (octets letters : ℕ)
+    → ((os : List ℕ) → text′ first′ os ≡ text first os) → ReadAndWritten text first octets letters → ReadAndWritten text′ first′ octets letters
+as-text text first text′ first′ octets letters e w = record {
+  read = w .read;
+  written = w .written;
+  as-many = w .as-many;
+  so-long = w .so-long;
+  whole = e (w .read) ∙ w .whole;
+}

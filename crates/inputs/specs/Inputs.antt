@@ -1,7 +1,7 @@
 -- What holds of octets that are read behind others, and of a program that has read its input and written its text.
 -- Assumes nothing.
 use mathlib.Core.Path.{_≡_}
-use mathlib.Core.List.{List, _++_}
+use mathlib.Core.List.{List}
 use Prim.Native.Nat.{ℕ, _%_, _^_, _≤_}
 use lib.ListN.{length, take}
 use Rattle.inputs.specs.declared.Reading.{Reading}
@@ -13,10 +13,10 @@ pub record ReadBehind (input : List ℕ) (first : ℕ) (r : Reading) (input′ :
   pub inside : first ≤ length input → r .size ≤ length input
 
 -- a program that gives a text for what it reads, from a state on: octets were read, as many as are counted, octets of text were written, as many
--- as are counted (modulo 2^64), and the text of what was read is what was written and then the last line
-pub record ReadAndWritten {S : Type 0} (text : S → List ℕ → List ℕ) (first : S) (octets letters : ℕ) (last : List ℕ) : Type 0 where
+-- as are counted (both modulo 2^64), and what was written is the text of what was read
+pub record ReadAndWritten {S : Type 0} (text : S → List ℕ → List ℕ) (first : S) (octets letters : ℕ) : Type 0 where
   pub read : List ℕ
   pub written : List ℕ
   pub as-many : length read % 2 ^ 64 ≡ octets
   pub so-long : length written % 2 ^ 64 ≡ letters
-  pub whole : text first read ≡ written ++ last
+  pub whole : text first read ≡ written

@@ -1,11 +1,13 @@
 -- A capture on standard input, listed on standard output.
 -- Assumes nothing.
 use mathlib.Core.Path.{_≡_}
-use mathlib.Core.Bool.{true}
-use mathlib.Core.List.{List}
+use mathlib.Core.Bool.{true, cond}
+use mathlib.Core.List.{List, []}
 use Prim.Native.Nat.{ℕ}
-use lib.ListN.{replicate}
+use lib.Dec.{ltb}
+use lib.ListN.{length, replicate}
 use Rattle.receiver_state.specs.Receiver.{storeSize}
+use Rattle.counting.specs.Counts.{countsOf}
 use Rattle.captures.specs.declared.Listing.{Listing}
 use Rattle.captures.specs.Lines.{closing}
 use Rattle.captures.specs.Captures.{Running, running, started, printed}
@@ -16,6 +18,10 @@ use Rattle.listings.specs.declared.Ended.{Ended}
 abbrev pub beginning : List ℕ → Running
 beginning own = running (started own) (replicate storeSize 0)
 
--- a run that came to the end of the input and wrote all: what it wrote, with the last line of its counts, is the text of what it read
+-- the whole text: of an own address and what follows it, or the last line alone where the address is cut short
+unfoldable pub listingOf : Listing → List ℕ → List ℕ → List ℕ
+listingOf l own os = cond (ltb (length own) 3) (closing l (countsOf [])) (printed l (beginning own) os)
+
+-- a run that came to the end of the input and wrote all: what it wrote is the text of what it read behind the own address
 abbrev pub Listed : Listing → List ℕ → Ended → Type 0
-Listed l own r = r .whole ≡ true → ReadAndWritten (printed l) (beginning own) (r .read) (r .written) (closing l (r .counts))
+Listed l own r = r .whole ≡ true → ReadAndWritten (listingOf l) own (r .read) (r .written)

@@ -1,9 +1,9 @@
 // A capture on standard input, listed on standard output: what the programs gateway and delivered have in common.
 ghost use mathlib.Core.Path.{_≡_};
-ghost use Prim.Native.Nat.{_≤_};
+ghost use Prim.Native.Nat.{_+_, _%_, _^_, _≤_};
 ghost use lib.ListN.{length};
 ghost use Rattle.receiver_state.specs.Receiver.{storeSize};
-ghost use Rattle.captures.specs.Lines.{lineRoom};
+ghost use Rattle.captures.specs.Lines.{closing, lineRoom};
 ghost use Rattle.listings.specs.Listings.{Listed};
 ghost use Rattle.listings.specs.Parts.{Turned};
 use captures::Gateway;
@@ -15,6 +15,11 @@ use receiver_state::STORE;
 const INPUT: usize = 54272;
 
 const TEXT: usize = 65536;
+
+// The most octets of the last line, and those of an own address.
+const END: usize = 67;
+
+const ADDRESS: usize = 3;
 
 // The gateway after the datagrams that are answered, how many octets are kept, how many octets of text there were, and whether they were
 // written.
@@ -52,26 +57,27 @@ fn answer(
     }
 }
 
-// The counts; how many octets were read behind the own address and how many of text were written, modulo 2^64; whether the input was read to
-// its end and all was written; and if not, whether it was the input that failed.
+// How many octets were read behind the own address and how many of text were written, modulo 2^64; whether the input was read to its end and
+// all was written; and if not, whether it was the input that failed.
 pub struct Ended {
-    pub counts: Counts,
     pub read: u64,
     pub written: u64,
     pub whole: bool,
     pub unread: bool,
 }
 
-fn finish(g: Gateway, read: u64, written: u64, whole: bool, unread: bool) -> Ended
-    ensures { λ r. ⌜ r ≡ record { counts = g .counts; read = read; written = written; whole = whole; unread = unread } ⌝ }
+// Writes the last line.
+fn close(listing: Listing, c: Counts, read: u64, written: u64) -> Ended
+    ensures { λ r. ⌜ (r .read ≡ read) × (r .written ≡ (written + length (closing listing c)) % 2 ^ 64) ⌝ }
 {
-    let counts = g.counts;
+    let mut text = [0u8; END];
+    let end = captures::close(listing, c, &mut text);
+    let whole = io::write_all(libc::STDOUT_FILENO, &text[..end]);
     Ended {
-        counts,
         read,
-        written,
+        written: std::num::wrapping_add_u64(written, end as u64),
         whole,
-        unread,
+        unread: false,
     }
 }
 
@@ -80,6 +86,9 @@ fn finish(g: Gateway, read: u64, written: u64, whole: bool, unread: bool) -> End
 pub fn run(listing: Listing, own: &[u8]) -> Ended
     ensures { λ r. ⌜ Listed listing (now (own .entry)) r ⌝ }
 {
+    if own.len() < ADDRESS {
+        return close(listing, counting::none(), 0, 0);
+    }
     let mut store = [0u8; STORE];
     let mut input = [0u8; INPUT];
     let mut text = [0u8; TEXT];
@@ -93,7 +102,12 @@ pub fn run(listing: Listing, own: &[u8]) -> Ended
         turns -= 1;
         let t = answer(listing, now, &mut store, &mut input, size, last, &mut text);
         if !t.written {
-            return finish(now, read, written, false, false);
+            return Ended {
+                read,
+                written,
+                whole: false,
+                unread: false,
+            };
         }
         now = t.gateway;
         written = std::num::wrapping_add_u64(written, t.letters as u64);
@@ -102,15 +116,20 @@ pub fn run(listing: Listing, own: &[u8]) -> Ended
             continue;
         }
         if last {
-            return finish(now, read, written, true, false);
+            return close(listing, now.counts, read, written);
         }
         let reading = inputs::read_behind(&mut input, size);
         if reading.failed {
-            return finish(now, read, written, false, true);
+            break;
         }
         read = std::num::wrapping_add_u64(read, (reading.size - size) as u64);
         last = reading.size == size;
         size = reading.size;
     }
-    finish(now, read, written, false, true)
+    Ended {
+        read,
+        written,
+        whole: false,
+        unread: true,
+    }
 }

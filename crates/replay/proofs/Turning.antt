@@ -3,8 +3,10 @@
 use mathlib.Core.Path.{_≡_, refl, sym, subst}
 use mathlib.Core.Bool.{Bool, true, false}
 use mathlib.Core.List.{List, []}
-use Prim.Native.Nat.{ℕ}
-use lib.ListN.{take, replicate}
+use Prim.Native.Nat.{ℕ, _^_, _≤_, _<_}
+use native.Mathlib.Omega.{arith}
+use lib.ListN.{length, take, replicate}
+use borrow.Author.Tests.{lt-ltb, le-ltb}
 use Rattle.addresses.specs.Octets.{addressAt}
 use Rattle.receiver_state.specs.Receiver.{storeSize, freshFor}
 use Rattle.receiver_state.specs.declared.Receiver.{Receiver}
@@ -13,12 +15,13 @@ use Rattle.logs.specs.Log.{stateOf}
 use Rattle.replays.specs.Log.{recordsOf, records}
 use Rattle.replays.specs.Text.{reportText}
 use Rattle.replays.specs.Replay.{linesGiven, printed}
+use Rattle.inputs.specs.Inputs.{ReadAndWritten}
 use Rattle.inputs.specs.Parts.{Underway}
-use Rattle.inputs.proofs.Turns.{underway-start}
-use Rattle.replay.specs.Reports.{beginning}
+use Rattle.inputs.proofs.Turns.{underway-start, underway-over, as-text}
+use Rattle.replay.specs.Reports.{beginning, reportOf}
 
 -- nothing more to come
-pub printed-none : (s : State) → printed s [] ≡ []
+printed-none : (s : State) → printed s [] ≡ []
 unfolding printed recordsOf records reportText linesGiven
 printed-none s = refl
 
@@ -29,3 +32,15 @@ module _ (own : List ℕ) where
 
   pub run-start : (rx : Receiver) → rx ≡ freshFor (addressAt own 0) .receiver → Run 0 0 false rx (replicate storeSize 0) []
   run-start rx e = subst (λ (x : Receiver). Run 0 0 false x (replicate storeSize 0) []) (sym e) (underway-start printed (beginning own))
+
+  -- an own address that is cut short
+  pub run-short : length own < 3 → ReadAndWritten reportOf own 0 0
+  unfolding reportOf
+  run-short h = record { read = []; written = []; as-many = refl; so-long = refl; whole = rw (lt-ltb (length own) 3 h) }
+
+  pub run-ends : 3 ≤ length own → (read written : ℕ) (last : Bool) (rx : Receiver) (store input : List ℕ) (kept : ℕ)
+      → Run read written last rx store (take kept input) → last ≡ true → kept ≡ 0 → written < 2 ^ 64 → ReadAndWritten reportOf own read written
+  unfolding reportOf
+  run-ends h read written last rx store input kept u e z small =
+      as-text printed (beginning own) reportOf own read written (λ os. rw (le-ltb (length own) 3 h))
+      (underway-over printed (beginning own) read written last (stateOf rx store) input kept u e z [] (printed-none (stateOf rx store)) written (omega arith))

@@ -1,10 +1,11 @@
 -- A log on standard input, its lines on standard output.
 -- Assumes nothing.
 use mathlib.Core.Path.{_≡_}
-use mathlib.Core.Bool.{true}
+use mathlib.Core.Bool.{true, cond}
 use mathlib.Core.List.{List, []}
 use Prim.Native.Nat.{ℕ}
-use lib.ListN.{replicate}
+use lib.Dec.{ltb}
+use lib.ListN.{length, replicate}
 use Rattle.addresses.specs.Octets.{addressAt}
 use Rattle.receiver_state.specs.Receiver.{storeSize, freshFor}
 use Rattle.history.specs.Run.{State}
@@ -17,6 +18,10 @@ use Rattle.replay.specs.declared.Ended.{Ended}
 abbrev pub beginning : List ℕ → State
 beginning own = stateOf (freshFor (addressAt own 0) .receiver) (replicate storeSize 0)
 
--- a run that came to the end of the input and wrote all: what it wrote is the text of what it read
+-- the whole text: of the records behind an own address; none where the address is cut short
+unfoldable pub reportOf : List ℕ → List ℕ → List ℕ
+reportOf own os = cond (ltb (length own) 3) [] (printed (beginning own) os)
+
+-- a run that came to the end of the input and wrote all: what it wrote is the text of what it read behind the own address
 abbrev pub Reported : List ℕ → Ended → Type 0
-Reported own r = r .whole ≡ true → ReadAndWritten printed (beginning own) (r .read) (r .written) []
+Reported own r = r .whole ≡ true → ReadAndWritten reportOf own (r .read) (r .written)

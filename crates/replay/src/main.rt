@@ -15,6 +15,9 @@ const INPUT: usize = 65538;
 
 const TEXT: usize = 65536;
 
+// Octets of an own address.
+const ADDRESS: usize = 3;
+
 // The receiver after the records that are answered, how many octets are kept, how many octets of text there were, and whether they were
 // written.
 struct Turn {
@@ -64,6 +67,14 @@ struct Ended {
 fn run(own: &[u8]) -> Ended
     ensures { λ r. ⌜ Reported (now (own .entry)) r ⌝ }
 {
+    if own.len() < ADDRESS {
+        return Ended {
+            read: 0,
+            written: 0,
+            whole: true,
+            unread: false,
+        };
+    }
     let mut store = [0u8; STORE];
     let mut input = [0u8; INPUT];
     let mut text = [0u8; TEXT];
@@ -125,10 +136,8 @@ fn main() {
         os::fail(b"replay: standard input can't be read");
         return;
     }
-    if first.size < 3 {
-        return;
-    }
-    let e = run(&own);
+    let size = first.size;
+    let e = run(&own[..size]);
     if e.whole {
         return;
     }

@@ -1,16 +1,17 @@
 -- `listings::run` meets its contract: after each turn what was written, and then the text of the rest and of what follows, is the whole text.
 -- Assumes nothing.
 use mathlib.Core.Path.{_≡_, refl, ap, _∙_}
-use mathlib.Core.Bool.{false}
-use Prim.Native.Nat.{_≤_}
+use Prim.Native.Nat.{_+_, _%_, _^_, _≤_}
 use native.Mathlib.Omega.{arith}
 use lib.ListN.{length, take}
 use borrow.Author.Needs.{needs}
-use Rattle.listings.specs.declared.Ended.{Ended}
+use Rattle.foundation.proofs.Tests.{never}
+use Rattle.counting.specs.declared.Counts.{Counts}
+use Rattle.captures.specs.Lines.{closing}
 use Rattle.captures.specs.Captures.{running, printed}
 use Rattle.inputs.proofs.Turns.{underway-answered, underway-read, keeps-few, keeps-all, keeps-none}
 use Rattle.listings.specs.Listings.{beginning}
-use Rattle.listings.proofs.Turning.{Run, line-fits, run-start, run-ends, run-stops}
+use Rattle.listings.proofs.Turning.{Run, line-fits, run-start, run-short, run-ends}
 use Rattle.listings.proofs.run.Statement.{statement}
 use Rattle.listings.proofs.run.Tie as tie
 
@@ -23,11 +24,24 @@ abbrev μ-loop : tie.MeasureT-loop
 μ-loop listing own store₀ input₀ text₀ now₀ size₀ last₀ read₀ written₀ turns₀ store input text now size last read written turns =
     turns
 
+none-requires : tie.Need-none-requires Inv-loop μ-loop
+none-requires c κs = search needs
+
+close-requires : tie.Need-close-requires Inv-loop μ-loop
+close-requires c κs = search needs
+
+returns : tie.Need-returns Inv-loop μ-loop
+returns c =
+    let a = c .before .before .before .before .args in
+    let k = c .close in
+    run-short (a .listing) (a .own .now) (k .result) 0 0 (k .ensures .0) (c .before .before .if1 .taken) refl refl
+    (k .ensures .1 ∙ ap (λ (x : Counts). (0 + length (closing (a .listing) x)) % 2 ^ 64) (c .before .none .ensures))
+
 start-requires : tie.Need-start-requires Inv-loop μ-loop
 start-requires c κs = search needs
 
 loop-holds : tie.Need-loop-holds Inv-loop μ-loop
-loop-holds c = let a = c .before .before .args in (refl, refl, refl, omega arith, run-start (a .listing) (a .own .now) (c .start .result) (c .start .ensures))
+loop-holds c = let a = c .before .before .before .args in (refl, refl, refl, omega arith, run-start (a .listing) (a .own .now) (c .start .result) (c .start .ensures))
 
 sub-turns : tie.Need-sub-turns Inv-loop μ-loop
 sub-turns c = search needs
@@ -42,53 +56,45 @@ slice-aggregate-answer-3 : tie.Need-slice-aggregate-answer-3 Inv-loop μ-loop
 slice-aggregate-answer-3 c = search needs
 
 answer-requires : tie.Need-answer-requires Inv-loop μ-loop
-answer-requires c κs = let l = c .before .before .before .before .loop in (l .inv .0, omega (arith, l .inv .1, l .inv .3), line-fits (c .before .before .before .before .before .before .before .args .listing) _ (l .inv .2))
+answer-requires c κs = let l = c .before .before .before .before .loop in (l .inv .0, omega (arith, l .inv .1, l .inv .3), line-fits (c .before .before .before .before .before .before .before .before .args .listing) _ (l .inv .2))
 
-finish-requires : tie.Need-finish-requires Inv-loop μ-loop
-finish-requires c κs = search needs
-
-returns : tie.Need-returns Inv-loop μ-loop
-returns c = let a = c .before .before .before .before .before .before .before .before .before .before .before .before .before .before .args in run-stops (a .listing) (a .own .now) (c .finish .result) (ap (λ (r : Ended). r .whole) (c .finish .ensures))
+returns-2 : tie.Need-returns-2 Inv-loop μ-loop
+returns-2 c = λ t. never t refl
 
 wrapping-add-u64-requires : tie.Need-wrapping-add-u64-requires Inv-loop μ-loop
 wrapping-add-u64-requires c κs = search needs
 
 loop-less : tie.Need-loop-less Inv-loop μ-loop
-loop-less c = omega arith
+loop-less c = omega (arith, c .before .before .before .before .before .before .before .before .before .before .before .before .before .loop-test .taken)
 
 loop-again : tie.Need-loop-again Inv-loop μ-loop
 loop-again c =
-    let a = c .before .before .before .before .before .before .before .before .before .before .before .before .before .before .before .before .before .args in
+    let a = c .before .before .before .before .before .before .before .before .before .before .before .before .before .before .before .before .before .before .args in
     let l = c .before .before .before .before .before .before .before .before .before .before .before .before .before .before .loop in
     let w = c .before .before .before .before .before .before .before .before .before .answer in
     let u = underway-answered (printed (a .listing)) (beginning (a .own .now)) (l .read) (l .written) (l .last) (running (l .now) (l .store)) (take (l .size) (l .input)) (l .inv .4) (w .result .letters) (w .result .kept) _ _ (w .ensures) _ (c .before .before .wrapping-add-u64 .ensures) in
     let inside : l .size ≤ length (l .input) = omega (arith, l .inv .1, l .inv .3) in
     (w .kept .1 .1 .0 ∙ l .inv .0, w .kept .1 .1 .1 .0 ∙ l .inv .1, w .kept .1 .1 .1 .1 .1 .1 .0 ∙ l .inv .2, omega (arith, keeps-few (printed (a .listing)) (running (l .now) (l .store)) (l .input) (l .size) (l .last) (w .result .letters) (w .result .kept) _ _ (w .ensures) inside, l .inv .3), u)
 
-finish-requires-2 : tie.Need-finish-requires-2 Inv-loop μ-loop
-finish-requires-2 c κs = search needs
+close-requires-2 : tie.Need-close-requires-2 Inv-loop μ-loop
+close-requires-2 c κs = search needs
 
-returns-2 : tie.Need-returns-2 Inv-loop μ-loop
-returns-2 c =
-    let a = c .before .before .before .before .before .before .before .before .before .before .before .before .before .before .before .before .before .before .before .args in
+returns-3 : tie.Need-returns-3 Inv-loop μ-loop
+returns-3 c =
+    let a = c .before .before .before .before .before .before .before .before .before .before .before .before .before .before .before .before .before .before .before .before .args in
     let l = c .before .before .before .before .before .before .before .before .before .before .before .before .before .before .before .before .loop in
     let w = c .before .before .before .before .before .before .before .before .before .before .before .answer in
     let u = underway-answered (printed (a .listing)) (beginning (a .own .now)) (l .read) (l .written) (l .last) (running (l .now) (l .store)) (take (l .size) (l .input)) (l .inv .4) (w .result .letters) (w .result .kept) _ _ (w .ensures) _ (c .before .before .before .before .wrapping-add-u64 .ensures) in
     let inside : l .size ≤ length (l .input) = omega (arith, l .inv .1, l .inv .3) in
-    run-ends (a .listing) (a .own .now) (l .read) _ (l .last) (w .result .gateway) _ _ (w .result .kept) u (c .before .if3 .taken)
-    (keeps-none (printed (a .listing)) (running (l .now) (l .store)) (l .input) (l .size) (l .last) (w .result .letters) (w .result .kept) _ _ (w .ensures) inside (c .before .if3 .taken) (omega arith)) false (c .finish2 .result) (c .finish2 .ensures)
+    let k = c .close2 in
+    run-ends (a .listing) (a .own .now) (k .result) (l .read) _ (k .ensures .0) (c .before .before .before .before .before .before .before .before .before .before .before .before .before .before .before .before .before .before .if1 .left) (l .last) (w .result .gateway) _ _ (w .result .kept) u (c .before .if4 .taken)
+    (keeps-none (printed (a .listing)) (running (l .now) (l .store)) (l .input) (l .size) (l .last) (w .result .letters) (w .result .kept) _ _ (w .ensures) inside (c .before .if4 .taken) (omega arith)) (k .ensures .1)
 
 slice-aggregate-read-behind : tie.Need-slice-aggregate-read-behind Inv-loop μ-loop
 slice-aggregate-read-behind c = search needs
 
 read-behind-requires : tie.Need-read-behind-requires Inv-loop μ-loop
 read-behind-requires c κs = search needs
-
-finish-requires-3 : tie.Need-finish-requires-3 Inv-loop μ-loop
-finish-requires-3 c κs = search needs
-
-returns-3 : tie.Need-returns-3 Inv-loop μ-loop
-returns-3 c = let a = c .before .before .before .before .before .before .before .before .before .before .before .before .before .before .before .before .before .before .before .before .before .before .before .args in run-stops (a .listing) (a .own .now) (c .finish3 .result) (ap (λ (r : Ended). r .whole) (c .finish3 .ensures))
 
 sub-wrapping-add-u64 : tie.Need-sub-wrapping-add-u64 Inv-loop μ-loop
 sub-wrapping-add-u64 c = c .before .before .before .read-behind .ensures .behind
@@ -101,7 +107,7 @@ loop-less-2 c = omega (arith, c .before .before .before .before .before .before 
 
 loop-again-2 : tie.Need-loop-again-2 Inv-loop μ-loop
 loop-again-2 c =
-    let a = c .before .before .before .before .before .before .before .before .before .before .before .before .before .before .before .before .before .before .before .before .before .before .before .before .before .args in
+    let a = c .before .before .before .before .before .before .before .before .before .before .before .before .before .before .before .before .before .before .before .before .before .before .before .before .before .before .args in
     let l = c .before .before .before .before .before .before .before .before .before .before .before .before .before .before .before .before .before .before .before .before .before .before .loop in
     let w = c .before .before .before .before .before .before .before .before .before .before .before .before .before .before .before .before .before .answer in
     let u = underway-answered (printed (a .listing)) (beginning (a .own .now)) (l .read) (l .written) (l .last) (running (l .now) (l .store)) (take (l .size) (l .input)) (l .inv .4) (w .result .letters) (w .result .kept) _ _ (w .ensures) _ (c .before .before .before .before .before .before .before .before .before .before .wrapping-add-u64 .ensures) in
@@ -110,13 +116,13 @@ loop-again-2 c =
     let room = w .kept .1 .1 .1 .0 ∙ l .inv .1 in
     let kept = keeps-all (printed (a .listing)) (running (l .now) (l .store)) (l .input) (l .size) (l .last) (w .result .letters) (w .result .kept) _ _ (w .ensures) inside (omega arith) in
     let whole : l .size ≤ length (c .before .before .before .before .before .before .before .before .before .before .before .before .before .before .before .before .before .answer .last .1 .1 .1 .0) = omega (arith, room, l .inv .3) in
-    (w .kept .1 .1 .0 ∙ l .inv .0, r .kept .0 ∙ room, w .kept .1 .1 .1 .1 .1 .1 .0 ∙ l .inv .2, omega (arith, room, r .ensures .inside whole), underway-read _ (l .size) (r .result) _ (r .ensures) whole (r .kept .0) (printed (a .listing)) (beginning (a .own .now)) (l .read) _ (l .last) _ (w .result .kept) u (c .before .before .before .before .before .before .before .if3 .left) kept _ refl _ (c .before .wrapping-add-u642 .ensures))
-
-finish-requires-4 : tie.Need-finish-requires-4 Inv-loop μ-loop
-finish-requires-4 c κs = search needs
+    (w .kept .1 .1 .0 ∙ l .inv .0, r .kept .0 ∙ room, w .kept .1 .1 .1 .1 .1 .1 .0 ∙ l .inv .2, omega (arith, room, r .ensures .inside whole), underway-read _ (l .size) (r .result) _ (r .ensures) whole (r .kept .0) (printed (a .listing)) (beginning (a .own .now)) (l .read) _ (l .last) _ (w .result .kept) u (c .before .before .before .before .before .before .before .if4 .left) kept _ refl _ (c .before .wrapping-add-u642 .ensures))
 
 returns-4 : tie.Need-returns-4 Inv-loop μ-loop
-returns-4 c = let a = c .before .before .before .before .before .args in run-stops (a .listing) (a .own .now) (c .finish4 .result) (ap (λ (r : Ended). r .whole) (c .finish4 .ensures))
+returns-4 c = λ t. never t refl
+
+returns-5 : tie.Need-returns-5 Inv-loop μ-loop
+returns-5 c = λ t. never t refl
 
 pub run-spec : {M : Type 1} → statement M
 run-spec =
@@ -124,6 +130,9 @@ run-spec =
     (tie.spec
     Inv-loop
     μ-loop
+    none-requires
+    close-requires
+    returns
     start-requires
     loop-holds
     sub-turns
@@ -131,20 +140,17 @@ run-spec =
     slice-aggregate-answer-2
     slice-aggregate-answer-3
     answer-requires
-    finish-requires
-    returns
+    returns-2
     wrapping-add-u64-requires
     loop-less
     loop-again
-    finish-requires-2
-    returns-2
+    close-requires-2
+    returns-3
     slice-aggregate-read-behind
     read-behind-requires
-    finish-requires-3
-    returns-3
     sub-wrapping-add-u64
     wrapping-add-u64-requires-2
     loop-less-2
     loop-again-2
-    finish-requires-4
-    returns-4)
+    returns-4
+    returns-5)
