@@ -16,7 +16,7 @@ use Rattle.counting.proofs.Counting.{counts-on}
 use Rattle.captures.specs.declared.Listing.{Listing}
 use Rattle.captures.specs.Lines.{closing}
 use Rattle.captures.specs.Captures.{datagramSize, cut, datagramsIn, wholeIn, datagramsOf, Running, answerGiven, leftBy, outcomeOf, answersGiven, leftByAll, linesOf, printed, octetsOf}
-use Rattle.captures.specs.Parts.{lineText}
+use Rattle.captures.specs.Parts.{listedLine}
 use Rattle.captures.proofs.Runs.{lines-none, lines-cons}
 
 -- ---- datagrams behind datagrams
@@ -30,8 +30,8 @@ lines-append : (l : Listing) (s : Running) (ds es : List (List ℕ)) → linesOf
 unfolding leftByAll
 lines-append l s [] es = ap (λ (x : List ℕ). x ++ linesOf l s es) (sym (lines-none l s))
 lines-append l s (d ∷ ds) es =
-    lines-cons l s d (ds ++ es) ∙ ap (λ (x : List ℕ). lineText l (s .gateway .counts .datagrams) (outcomeOf s d) ++ x) (lines-append l (leftBy s d) ds es)
-    ∙ sym (append-assoc (lineText l (s .gateway .counts .datagrams) (outcomeOf s d)) (linesOf l (leftBy s d) ds) (linesOf l (leftByAll (leftBy s d) ds) es))
+    lines-cons l s d (ds ++ es) ∙ ap (λ (x : List ℕ). listedLine l (s .gateway .counts .datagrams) (outcomeOf s d) ++ x) (lines-append l (leftBy s d) ds es)
+    ∙ sym (append-assoc (listedLine l (s .gateway .counts .datagrams) (outcomeOf s d)) (linesOf l (leftBy s d) ds) (linesOf l (leftByAll (leftBy s d) ds) es))
     ∙ ap (λ (x : List ℕ). x ++ linesOf l (leftByAll (leftBy s d) ds) es) (sym (lines-cons l s d ds))
 
 -- ---- octets behind octets

@@ -2,13 +2,11 @@
 -- Assumes nothing.
 use mathlib.Core.Path.{_≡_, refl, sym, ap, subst, _∙_}
 use mathlib.Core.List.{List, [], _∷_}
-use Prim.Native.Nat.{ℕ, _+_, _*_, _^_, _≤_, _<_, min}
-use native.Mathlib.Decide.{decLt}
+use Prim.Native.Nat.{ℕ, _+_, _*_, _^_, _≤_, _<_}
 use native.Mathlib.Omega.{arith}
-use lib.ListN.{length, take}
-use lib.Seq.{take-all, take-length}
+use lib.ListN.{length}
 use Rattle.foundation.proofs.Copying.{length-put}
-use Rattle.texts.specs.Texts.{decimal, octetsText, blank, lineFeed, parts, Wrote}
+use Rattle.texts.specs.Texts.{decimal, octetsText, blank, lineFeed, parts, Wrote, AtMost}
 use Rattle.texts.proofs.Decimals.{short}
 use Rattle.texts.proofs.Writing.{Put, wrote-none, Chain, more, chained, as-put, length-parts, length-octets}
 use Rattle.transactions.specs.declared.header.Transaction.{Transaction}
@@ -25,7 +23,7 @@ use Rattle.counting.specs.Counts.{answerNumber}
 use Rattle.captures.specs.declared.Listing.{Listing}
 use Rattle.captures.specs.declared.Listing.the-variants.{Numbers, Deliveries}
 use Rattle.captures.specs.Lines.{numberLine, endLine, sourcePart, sizePart, messageLine, badLine, deliveryLine, closing, lineRoom}
-use Rattle.captures.specs.Parts.{lineText, AtMost}
+use Rattle.captures.specs.Parts.{listedLine}
 
 -- a number of 64 bits has at most 20 digits
 long-number : (n : ℕ) → n < 2 ^ 64 → length (decimal n) ≤ 20
@@ -153,17 +151,17 @@ module _ (i : ℕ) (t : Transaction) (store d : List ℕ) (at r : ℕ) (m : List
   reception-line a b e w = subst (λ (x : reception.Answer). AtMost 1302 (deliveryLine i t (Reception.said x store)) d at r m) (sym e) w
 
   pub number-listed : (l : Listing) (a : reception.Answer) (n : ℕ) → l ≡ Numbers → n ≡ answerNumber a → AtMost 25 (numberLine i n) d at r m
-      → AtMost (lineRoom l) (lineText l i (record { said = Reception.said a store; transaction = t })) d at r m
-  unfolding lineRoom lineText
+      → AtMost (lineRoom l) (listedLine l i (record { said = Reception.said a store; transaction = t })) d at r m
+  unfolding lineRoom listedLine
   number-listed l a n e f w =
-      subst (λ (x : Listing). AtMost (lineRoom x) (lineText x i (record { said = Reception.said a store; transaction = t })) d at r m) (sym e)
+      subst (λ (x : Listing). AtMost (lineRoom x) (listedLine x i (record { said = Reception.said a store; transaction = t })) d at r m) (sym e)
       (subst (λ (k : ℕ). AtMost 25 (numberLine i k) d at r m) (f ∙ number-said a store) w)
 
   pub delivery-listed : (l : Listing) (a : reception.Answer) → l ≡ Deliveries → AtMost 1302 (deliveryLine i t (Reception.said a store)) d at r m
-      → AtMost (lineRoom l) (lineText l i (record { said = Reception.said a store; transaction = t })) d at r m
-  unfolding lineRoom lineText
+      → AtMost (lineRoom l) (listedLine l i (record { said = Reception.said a store; transaction = t })) d at r m
+  unfolding lineRoom listedLine
   delivery-listed l a e w =
-      subst (λ (x : Listing). AtMost (lineRoom x) (lineText x i (record { said = Reception.said a store; transaction = t })) d at r m) (sym e) w
+      subst (λ (x : Listing). AtMost (lineRoom x) (listedLine x i (record { said = Reception.said a store; transaction = t })) d at r m) (sym e) w
 
 -- the last line, of each listing
 module _ (l : Listing) (c : Counts) (d : List ℕ) where
@@ -183,13 +181,3 @@ numbers-room l k n e h = subst (λ (x : Listing). k + lineRoom x ≤ n) e h
 pub deliveries-room : (l : Listing) (k n : ℕ) → l ≡ Deliveries → k + lineRoom l ≤ n → k + 1302 ≤ n
 unfolding lineRoom
 deliveries-room l k n e h = subst (λ (x : Listing). k + lineRoom x ≤ n) e h
-
--- the shorter of two lengths
-pub within-store : (n : ℕ) (store : List ℕ) → take (min n (length store)) store ≡ take n store
-within-store n store = go (decLt n (length store))
-  where
-    go : Dec (n < length store) → take (min n (length store)) store ≡ take n store
-    go (yes h) = let e : min n (length store) ≡ n = omega arith in ap (λ (k : ℕ). take k store) e
-    go (no h) =
-        let e : min n (length store) ≡ length store = omega arith in
-        ap (λ (k : ℕ). take k store) e ∙ take-length store ∙ sym (take-all n store (omega arith))

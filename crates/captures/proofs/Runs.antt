@@ -7,9 +7,9 @@ use native.Mathlib.Nat.{mul-add, mul-one, mul-le-mul-left}
 use native.Mathlib.Omega.{arith}
 use lib.ListN.{length, take, drop, length-append, length-drop}
 use lib.Seq.{drop-drop}
-use Rattle.foundation.proofs.Copying.{length-put}
+use Rattle.foundation.proofs.Copying.{length-put, take-shorter}
 use Rattle.receiver_state.specs.Receiver.{storeSize}
-use Rattle.texts.specs.Texts.{Wrote}
+use Rattle.texts.specs.Texts.{Wrote, AtMost}
 use Rattle.texts.proofs.Writing.{wrote-none, behind}
 use Rattle.captures.specs.declared.Gateway.{Gateway}
 use Rattle.captures.specs.declared.Listing.{Listing}
@@ -20,8 +20,7 @@ use Rattle.counting.specs.declared.Counts.{Counts}
 use Rattle.counting.specs.Counts.{counted}
 use Rattle.captures.specs.Lines.{Outcome, numberLines, numbers, deliveryLines, listed, lineRoom}
 use Rattle.captures.specs.Captures.{datagramSize, cut, Running, running, answerGiven, leftBy, outcomeOf, leftByAll, outcomes, linesOf}
-use Rattle.captures.specs.Parts.{lineText, AtMost}
-use Rattle.captures.proofs.Lines.{within-store}
+use Rattle.captures.specs.Parts.{listedLine}
 
 -- ---- one datagram more
 
@@ -30,8 +29,8 @@ next-index : (s : Running) (d : List ℕ) → leftBy s d .gateway .counts .datag
 unfolding leftBy counted
 next-index s d = refl
 
-listed-cons : (l : Listing) (i : ℕ) (o : Outcome) (os : List Outcome) → listed l i (o ∷ os) ≡ lineText l i o ++ listed l ((i + 1) % 2 ^ 64) os
-unfolding listed lineText numberLines numbers deliveryLines
+listed-cons : (l : Listing) (i : ℕ) (o : Outcome) (os : List Outcome) → listed l i (o ∷ os) ≡ listedLine l i o ++ listed l ((i + 1) % 2 ^ 64) os
+unfolding listed listedLine numberLines numbers deliveryLines
 listed-cons Numbers i o os = refl
 listed-cons Deliveries i o os = refl
 
@@ -41,25 +40,25 @@ lines-none Numbers s = refl
 lines-none Deliveries s = refl
 
 pub lines-cons : (l : Listing) (s : Running) (d : List ℕ) (ds : List (List ℕ))
-    → linesOf l s (d ∷ ds) ≡ lineText l (s .gateway .counts .datagrams) (outcomeOf s d) ++ linesOf l (leftBy s d) ds
+    → linesOf l s (d ∷ ds) ≡ listedLine l (s .gateway .counts .datagrams) (outcomeOf s d) ++ linesOf l (leftBy s d) ds
 unfolding linesOf outcomes
 lines-cons l s d ds =
     listed-cons l (s .gateway .counts .datagrams) (outcomeOf s d) (outcomes (leftBy s d) ds)
-    ∙ ap (λ (k : ℕ). lineText l (s .gateway .counts .datagrams) (outcomeOf s d) ++ listed l k (outcomes (leftBy s d) ds)) (sym (next-index s d))
+    ∙ ap (λ (k : ℕ). listedLine l (s .gateway .counts .datagrams) (outcomeOf s d) ++ listed l k (outcomes (leftBy s d) ds)) (sym (next-index s d))
 
 -- the step, from what the receiver gave and what was counted and written
 pub answered-step : (l : Listing) (g : Gateway) (store d text : List ℕ) (at : ℕ) (x : Received) (store′ : List ℕ) (c : Counts) (r : ℕ) (text′ : List ℕ)
     → x ≡ onDatagram (g .receiver) store d .received → store′ ≡ onDatagram (g .receiver) store d .store → c ≡ counted (g .counts) (x .answer)
-    → AtMost (lineRoom l) (lineText l (g .counts .datagrams) (record { said = said (x .answer) store′; transaction = x .receiver .transaction })) text at r text′
+    → AtMost (lineRoom l) (listedLine l (g .counts .datagrams) (record { said = said (x .answer) store′; transaction = x .receiver .transaction })) text at r text′
     → (running (record { receiver = x .receiver; counts = c }) store′ ≡ leftBy (running g store) d)
-    × AtMost (lineRoom l) (lineText l (g .counts .datagrams) (outcomeOf (running g store) d)) text at r text′
+    × AtMost (lineRoom l) (listedLine l (g .counts .datagrams) (outcomeOf (running g store) d)) text at r text′
 unfolding leftBy outcomeOf answerGiven
 answered-step l g store d text at x store′ c r text′ ex es ec w =
     let counts = ec ∙ ap (λ (y : Received). counted (g .counts) (y .answer)) ex in
     let outcome : _≡_ {A = Outcome} (record { said = said (x .answer) store′; transaction = x .receiver .transaction }) (outcomeOf (running g store) d) =
     λ i. record { said = said (ex i .answer) (es i); transaction = ex i .receiver .transaction } in (
       λ i. running (record { receiver = ex i .receiver; counts = counts i }) (es i),
-      subst (λ (o : Outcome). AtMost (lineRoom l) (lineText l (g .counts .datagrams) o) text at r text′) outcome w,
+      subst (λ (o : Outcome). AtMost (lineRoom l) (listedLine l (g .counts .datagrams) o) text at r text′) outcome w,
     )
 
 -- the datagram at a place
@@ -78,7 +77,7 @@ pub datagram-at : (octets : List ℕ) (i k : ℕ) → k ≡ min datagramSize (le
     → take k (drop (datagramSize * i) octets) ≡ take datagramSize (drop (datagramSize * i) octets)
 datagram-at octets i k e =
     ap (λ (n : ℕ). take n (drop (datagramSize * i) octets)) (e ∙ ap (min datagramSize) (sym (length-drop (datagramSize * i) octets)))
-    ∙ within-store datagramSize (drop (datagramSize * i) octets)
+    ∙ take-shorter datagramSize (drop (datagramSize * i) octets)
 
 -- ---- part of the way through
 
@@ -118,12 +117,12 @@ module _ (l : Listing) (g : Gateway) (store octets text : List ℕ) (count : ℕ
 
     pub midway-more : (d : List ℕ) → i < count → d ≡ take datagramSize (drop (datagramSize * i) octets) → lineRoom l * count ≤ length text
         → (now″ : Gateway) (store″ : List ℕ) (end″ : ℕ) (text″ : List ℕ) → running now″ store″ ≡ leftBy (running now store′) d
-        → AtMost (lineRoom l) (lineText l (now .counts .datagrams) (outcomeOf (running now store′) d)) text′ end end″ text″
+        → AtMost (lineRoom l) (listedLine l (now .counts .datagrams) (outcomeOf (running now store′) d)) text′ end end″ text″
         → length store″ ≡ storeSize → Midway l g store octets text count (i + 1) now″ store″ end″ text″
     unfolding leftByAll
     midway-more d h e room now″ store″ end″ text″ left w size =
         let s = running now store′ in
-        let line = lineText l (now .counts .datagrams) (outcomeOf s d) in
+        let line = listedLine l (now .counts .datagrams) (outcomeOf s d) in
         let later = cut (count - (i + 1)) (drop (datagramSize * (i + 1)) octets) in
         let step = cut-more octets count i h ∙ ap (λ (x : List ℕ). x ∷ later) (sym e) in
         let more : lineRoom l * (i + 1) ≡ lineRoom l * i + lineRoom l = mul-add (lineRoom l) i 1 ∙ ap (λ (k : ℕ). lineRoom l * i + k) (mul-one (lineRoom l)) in

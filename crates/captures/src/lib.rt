@@ -7,9 +7,9 @@ ghost use Rattle.foundation.specs.Octets.{put};
 ghost use Rattle.receiver_state.specs.Receiver.{storeSize};
 ghost use Rattle.receiver.specs.Events.{said as receiver·said};
 ghost use Rattle.reception.specs.Reception.{said};
-ghost use Rattle.texts.specs.Texts.{endAt, Wrote};
+ghost use Rattle.texts.specs.Texts.{endAt, Wrote, AtMost};
 ghost use Rattle.captures.specs.Lines.{numberLine, endLine, sourcePart, sizePart, messageLine, badLine, deliveryLine, closing, lineRoom};
-ghost use Rattle.captures.specs.Parts.{lineText, AtMost};
+ghost use Rattle.captures.specs.Parts.{listedLine};
 ghost use Rattle.captures.specs.Captures.{datagramsIn, wholeIn, running, started, leftBy, outcomeOf, cut, leftByAll, linesOf, storeAfter, textAfter};
 ghost use Rattle.captures.specs.Captures.{list as Captures·list};
 ghost use Rattle.captures.specs.Claims.{ListClaims};
@@ -133,20 +133,10 @@ fn put_confirmed(
         event::Answer::Stored => at,
         event::Answer::Bad => put_bad(text, at, index, t),
         event::Answer::Message(n) => {
-            let end = shorter(n, store.len());
+            let end = foundation::octets::shorter(n, store.len());
             put_message(text, at, index, t, &store[..end])
         }
     }
-}
-
-// The shorter of two lengths.
-fn shorter(a: usize, b: usize) -> usize
-    ensures { λ r. ⌜ r ≡ min a b ⌝ }
-{
-    if a < b {
-        return a;
-    }
-    b
 }
 
 // The line of an answer: number or delivery.
@@ -160,7 +150,7 @@ fn put_line(
     store: &[u8],
 ) -> usize
     requires { ⌜ (at + lineRoom listing ≤ length (now text)) × (length (now store) ≡ storeSize) ⌝ }
-    ensures { λ r. ⌜ AtMost (lineRoom listing) (lineText listing index (record { said = said a (now (store .entry)); transaction = t })) (now (text .entry)) at r (now (text .exit)) ⌝ }
+    ensures { λ r. ⌜ AtMost (lineRoom listing) (listedLine listing index (record { said = said a (now (store .entry)); transaction = t })) (now (text .entry)) at r (now (text .exit)) ⌝ }
 {
     match listing {
         Listing::Numbers => put_number(text, at, index, counting::number_of(a)),
@@ -238,7 +228,7 @@ fn answer(
 ) -> Step
     requires { ⌜ (at + lineRoom listing ≤ length (now text)) × (length (now store) ≡ storeSize) ⌝ }
     ensures { λ r. ⌜ (running (r .gateway) (now (store .exit)) ≡ leftBy (running g (now (store .entry))) (now (datagram .entry)))
-        × AtMost (lineRoom listing) (lineText listing (g .counts .datagrams) (outcomeOf (running g (now (store .entry))) (now (datagram .entry))))
+        × AtMost (lineRoom listing) (listedLine listing (g .counts .datagrams) (outcomeOf (running g (now (store .entry))) (now (datagram .entry))))
         (now (text .entry)) at (r .end) (now (text .exit)) ⌝ }
 {
     let rx = g.receiver;
@@ -278,7 +268,7 @@ fn answer_all(
     let mut i: usize = 0;
     while i < count {
         let at = DATAGRAM * i;
-        let next = at + shorter(DATAGRAM, size - at);
+        let next = at + foundation::octets::shorter(DATAGRAM, size - at);
         let step = answer(listing, now, store, &octets[at..next], text, end);
         now = step.gateway;
         end = step.end;
@@ -293,12 +283,12 @@ fn count(listing: Listing, size: usize, last: bool, room: usize) -> usize
 {
     let fits = room / line_room(listing);
     if last {
-        return shorter(
+        return foundation::octets::shorter(
             size / DATAGRAM + (size % DATAGRAM + DATAGRAM - 1) / DATAGRAM,
             fits,
         );
     }
-    shorter(size / DATAGRAM, fits)
+    foundation::octets::shorter(size / DATAGRAM, fits)
 }
 
 // The most octets of a line.

@@ -2,15 +2,26 @@
 -- Assumes nothing.
 use mathlib.Core.Path.{_≡_, refl, sym, ap, _∙_}
 use mathlib.Core.List.{List, [], _++_, append-nil, append-assoc}
-use Prim.Native.Nat.{ℕ, _+_, _-_, _≤_, _<_}
+use Prim.Native.Nat.{ℕ, _+_, _-_, _≤_, _<_, min}
+use native.Mathlib.Decide.{decLt}
 use native.Mathlib.Numerals.{add-one}
 use native.Mathlib.Omega.{arith}
 use lib.Dec.{leb}
 use lib.ListN.{length, getD, take, drop, set, length-append, length-take, length-drop, drop-of-length-le}
-use lib.Seq.{paste, paste-zero, paste-suc, length-paste, take-all, take-at, drop-drop, drop-append-add}
+use lib.Seq.{paste, paste-zero, paste-suc, length-paste, take-all, take-length, take-at, drop-drop, drop-append-add}
 use borrow.Author.Tests.{le-leb, lt-leb, leb-true, leb-false}
 use Rattle.foundation.specs.Octets.{over, put}
 use Rattle.foundation.proofs.Tests.{either}
+
+-- no more octets than there are
+pub take-shorter : (n : ℕ) (os : List ℕ) → take (min n (length os)) os ≡ take n os
+take-shorter n os = go (decLt n (length os))
+  where
+    go : Dec (n < length os) → take (min n (length os)) os ≡ take n os
+    go (yes h) = let e : min n (length os) ≡ n = omega arith in ap (λ (k : ℕ). take k os) e
+    go (no h) =
+        let e : min n (length os) ≡ length os = omega arith in
+        ap (λ (k : ℕ). take k os) e ∙ take-length os ∙ sym (take-all n os (omega arith))
 
 -- m is d with the first i of the octets s written at a place
 pub record Copied (d : List ℕ) (at : ℕ) (s : List ℕ) (i : ℕ) (m : List ℕ) : Type 0 where

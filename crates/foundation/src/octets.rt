@@ -1,5 +1,6 @@
 // Octets at a place of a slice, read and written for every place: nothing is asked of a caller.
 ghost use mathlib.Core.Path.{_≡_};
+ghost use Prim.Native.Nat.{min};
 ghost use lib.ListN.{getD};
 ghost use Rattle.foundation.specs.Octets.{put as put·octets};
 
@@ -25,4 +26,14 @@ pub fn put(to: &mut [u8], at: usize, octets: &[u8])
         return;
     }
     bytes::copy(octets, &mut to[at..]);
+}
+
+// The shorter of two lengths.
+pub fn shorter(a: usize, b: usize) -> usize
+    ensures { λ r. ⌜ r ≡ min a b ⌝ }
+{
+    if a < b {
+        return a;
+    }
+    b
 }

@@ -12,7 +12,7 @@ use lib.Dec.{eqb}
 use borrow.Author.Tests.{eqb-true}
 use Rattle.foundation.proofs.Tests.{never}
 use Rattle.inputs.specs.Inputs.{ReadBehind, ReadAndWritten}
-use Rattle.inputs.specs.Parts.{GoesOn, Answers, Underway}
+use Rattle.inputs.specs.Parts.{Continues, Answers, Underway}
 use Rattle.inputs.specs.declared.Reading.{Reading}
 
 length-none : (l : List ℕ) → length l ≤ 0 → l ≡ []
@@ -63,12 +63,12 @@ module _ {S : Type 0} (text : S → List ℕ → List ℕ) (first : S) where
 
 -- a turn: some octets are taken, their text stands in front of what is lent for it, and the others are kept
 pub turn : {S : Type 0} (text : S → List ℕ → List ℕ) (s s′ : S) (os : List ℕ) (last : Bool) (lent : List ℕ) (end taken kept : ℕ) (rest : List ℕ)
-    → end ≤ length lent → GoesOn text s os last (take end lent) s′ (drop taken os) → taken ≤ length os → (last ≡ true → taken ≡ 0 → length os ≡ 0)
+    → end ≤ length lent → Continues text s os last (take end lent) s′ (drop taken os) → taken ≤ length os → (last ≡ true → taken ≡ 0 → length os ≡ 0)
     → kept ≡ length os - taken → rest ≡ drop taken os → Answers text s os last end kept s′ rest
 turn text s s′ os last lent end taken kept rest fits on within some ek er = record {
   line = take end lent;
   long = length-take-le end lent fits;
-  goes-on = subst (GoesOn text s os last (take end lent) s′) (sym er) on;
+  goes-on = subst (Continues text s os last (take end lent) s′) (sym er) on;
   fewer = omega (arith, ek);
   none-left = λ t e. some t (omega (arith, ek, e, within));
 }

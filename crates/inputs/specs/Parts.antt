@@ -8,15 +8,15 @@ use lib.ListN.{length}
 
 -- whatever follows, or nothing where nothing can: the text of what was read and follows is what was written, and then the text, from now on, of
 -- the rest and of what follows
-abbrev pub GoesOn : {S : Type 0} → (S → List ℕ → List ℕ) → S → List ℕ → Bool → List ℕ → S → List ℕ → Type 0
-GoesOn text first read ended written now rest =
+abbrev pub Continues : {S : Type 0} → (S → List ℕ → List ℕ) → S → List ℕ → Bool → List ℕ → S → List ℕ → Type 0
+Continues text first read ended written now rest =
     (more : List ℕ) → (ended ≡ true → more ≡ []) → text first (read ++ more) ≡ written ++ text now (rest ++ more)
 
 -- a turn: some of the octets are answered, and so many letters written; where nothing follows, none are left over that could be
 pub record Answers {S : Type 0} (text : S → List ℕ → List ℕ) (first : S) (octets : List ℕ) (ended : Bool) (letters kept : ℕ) (now : S) (rest : List ℕ) : Type 0 where
   pub line : List ℕ
   pub long : length line ≡ letters
-  pub goes-on : GoesOn text first octets ended line now rest
+  pub goes-on : Continues text first octets ended line now rest
   pub fewer : kept ≤ length octets
   pub none-left : ended ≡ true → kept ≡ length octets → length octets ≡ 0
 
@@ -26,4 +26,4 @@ pub record Underway {S : Type 0} (text : S → List ℕ → List ℕ) (first : S
   pub written : List ℕ
   pub as-many : length read % 2 ^ 64 ≡ octets
   pub so-long : length written % 2 ^ 64 ≡ letters
-  pub goes-on : GoesOn text first read ended written now rest
+  pub goes-on : Continues text first read ended written now rest

@@ -11,6 +11,6 @@ use Rattle.inputs.specs.Parts.{Answers}
 use Rattle.listings.specs.declared.Turn.{Turn}
 
 -- a turn over the first octets of the input
-abbrev pub Turned : Listing → Gateway → List ℕ → List ℕ → ℕ → Bool → Turn → List ℕ → List ℕ → Type 0
-Turned l g store input size last t store′ input′ =
+abbrev pub ListTurn : Listing → Gateway → List ℕ → List ℕ → ℕ → Bool → Turn → List ℕ → List ℕ → Type 0
+ListTurn l g store input size last t store′ input′ =
     Answers (printed l) (running g store) (take size input) last (t .letters) (t .kept) (running (t .gateway) store′) (take (t .kept) input′)

@@ -5,7 +5,7 @@ ghost use lib.ListN.{length};
 ghost use Rattle.receiver_state.specs.Receiver.{storeSize};
 ghost use Rattle.captures.specs.Lines.{closing, lineRoom};
 ghost use Rattle.listings.specs.Listings.{Listed};
-ghost use Rattle.listings.specs.Parts.{Turned};
+ghost use Rattle.listings.specs.Parts.{ListTurn};
 use captures::Gateway;
 use captures::Listing;
 use counting::Counts;
@@ -42,7 +42,7 @@ fn answer(
     text: &mut [u8],
 ) -> Turn
     requires { ⌜ (length (now store) ≡ storeSize) × (size ≤ length (now input)) × (lineRoom listing ≤ length (now text)) ⌝ }
-    ensures { λ r. ⌜ Turned listing g (now (store .entry)) (now (input .entry)) size last r (now (store .exit)) (now (input .exit)) ⌝ }
+    ensures { λ r. ⌜ ListTurn listing g (now (store .entry)) (now (input .entry)) size last r (now (store .exit)) (now (input .exit)) ⌝ }
 {
     let listed = captures::list(listing, g, store, &input[..size], last, text);
     let end = listed.end;

@@ -1,21 +1,18 @@
 -- A line in octets: what is written one behind the other, and what is said in it.
 -- Assumes nothing.
 use mathlib.Core.Path.{_≡_, refl, sym, ap, _∙_}
-use mathlib.Core.Bool.{cond}
 use mathlib.Core.Logic.{_≢_}
 use mathlib.Core.List.{List, [], _∷_, _++_}
 use Prim.Native.Nat.{ℕ, _+_, _*_, _-_, _/_, _%_, _≤_}
 use native.Mathlib.Omega.{arith}
-use lib.Dec.{ltb}
 use lib.ListN.{length, take, drop, replicate, length-append, length-replicate}
-use lib.Seq.{take-all, take-length}
-use borrow.Author.Tests.{eq-eqb, ne-eqb, ltb-true, ltb-false}
+use lib.Seq.{take-all}
+use borrow.Author.Tests.{eq-eqb, ne-eqb}
 use Rattle.messages.specs.declared.response.ResponseOctets.{ResponseOctets}
 use Rattle.transactions.specs.Answers.{refused, response, responseSaid}
 use Rattle.foundation.specs.Octets.{put}
 use Rattle.foundation.proofs.Copying.{Grown, grown-none, grown-put, grown-all}
 use Rattle.foundation.proofs.Filling.{drop-zeros}
-use Rattle.foundation.proofs.Tests.{either}
 use Rattle.receiver.specs.Events.{said}
 use Rattle.receiver.specs.declared.event.Answer.{Answer}
 use Rattle.stored.specs.Stored.{storedBlock}
@@ -52,15 +49,6 @@ module _ (code : ℕ) (os : List ℕ) (small : length os ≤ 2 * storedBlock) wh
       ∙ ap (λ (l : List ℕ). head code os ++ os ++ l) (zeros-behind (2 * storedBlock) (length os))
 
 -- ---- what is said
-
--- the shorter of two lengths
-pub shorter-within : (r a b : ℕ) → r ≡ cond (ltb a b) a b → r ≤ b
-shorter-within r a b e = either (ltb a b) (λ t. omega (arith, rw t at e, ltb-true a b t)) (λ t. omega (arith, rw t at e))
-
-pub take-shorter : (r n : ℕ) (os : List ℕ) → r ≡ cond (ltb n (length os)) n (length os) → take r os ≡ take n os
-take-shorter r n os e =
-    either (ltb n (length os)) (λ t. ap (λ (k : ℕ). take k os) (rw t at e))
-    (λ t. ap (λ (k : ℕ). take k os) (rw t at e) ∙ take-length os ∙ sym (take-all n os (ltb-false n (length os) t)))
 
 pub said-line : (store : List ℕ) (a b : Answer) (line : List ℕ) → a ≡ b → line ≡ lineIn (answer (said b store)) → line ≡ lineIn (answer (said a store))
 said-line store a b line e h = rw e h

@@ -1,10 +1,9 @@
 // One record of a log: what the receiver answers, in a line of a report. A line has 1,027 octets: a code, the length of the contents
 // (2 octets, most significant first), the contents, and zeros.
 ghost use mathlib.Core.Path.{_≡_};
-ghost use mathlib.Core.Bool.{true, cond};
+ghost use mathlib.Core.Bool.{true};
 ghost use mathlib.Core.List.{_++_};
 ghost use Prim.Native.Nat.{_+_, _*_, _≤_};
-ghost use lib.Dec.{ltb};
 ghost use lib.ListN.{length};
 ghost use Rattle.transactions.specs.Answers.{refused, responseSaid};
 ghost use Rattle.receiver_state.specs.Receiver.{storeSize, receiverGood};
@@ -64,16 +63,6 @@ fn put_refusal(line: &mut [u8], number: u8)
     put(line, REFUSED, &octets);
 }
 
-// The shorter of two lengths.
-fn shorter(a: usize, b: usize) -> usize
-    ensures { λ r. ⌜ r ≡ cond (ltb a b) a b ⌝ }
-{
-    if a < b {
-        return a;
-    }
-    b
-}
-
 // The line of an answer to a header or a block; a message stands in the store.
 fn put_answer(line: &mut [u8], a: Answer, store: &[u8])
     requires { ⌜ (length (now line) ≡ lineSize) × (length (now store) ≡ storeSize) ⌝ }
@@ -86,7 +75,7 @@ fn put_answer(line: &mut [u8], a: Answer, store: &[u8])
         Answer::Stored => put(line, STORED, b""),
         Answer::Bad => put(line, BAD, b""),
         Answer::Message(n) => {
-            let end = shorter(n, store.len());
+            let end = foundation::octets::shorter(n, store.len());
             put(line, MESSAGE, &store[..end]);
         }
     }

@@ -14,24 +14,24 @@ use Rattle.history.specs.Run.{State}
 use Rattle.logs.specs.Log.{stateOf}
 use Rattle.replays.specs.Log.{recordsOf, records}
 use Rattle.replays.specs.Text.{reportText}
-use Rattle.replays.specs.Replay.{linesGiven, printed}
+use Rattle.replays.specs.Replay.{linesGiven, reportFrom}
 use Rattle.inputs.specs.Inputs.{ReadAndWritten}
 use Rattle.inputs.specs.Parts.{Underway}
 use Rattle.inputs.proofs.Turns.{underway-start, underway-over, as-text}
-use Rattle.replay.specs.Reports.{beginning, reportOf}
+use Rattle.replay.specs.Reports.{freshOver, reportOf}
 
 -- nothing more to come
-printed-none : (s : State) → printed s [] ≡ []
-unfolding printed recordsOf records reportText linesGiven
-printed-none s = refl
+report-none : (s : State) → reportFrom s [] ≡ []
+unfolding reportFrom recordsOf records reportText linesGiven
+report-none s = refl
 
 module _ (own : List ℕ) where
   -- what was read and written, and what is not answered yet
   abbrev pub Run : ℕ → ℕ → Bool → Receiver → List ℕ → List ℕ → Type 0
-  Run read written last rx store rest = Underway printed (beginning own) read written last (stateOf rx store) rest
+  Run read written last rx store rest = Underway reportFrom (freshOver own) read written last (stateOf rx store) rest
 
   pub run-start : (rx : Receiver) → rx ≡ freshFor (addressAt own 0) .receiver → Run 0 0 false rx (replicate storeSize 0) []
-  run-start rx e = subst (λ (x : Receiver). Run 0 0 false x (replicate storeSize 0) []) (sym e) (underway-start printed (beginning own))
+  run-start rx e = subst (λ (x : Receiver). Run 0 0 false x (replicate storeSize 0) []) (sym e) (underway-start reportFrom (freshOver own))
 
   -- an own address that is cut short
   pub run-short : length own < 3 → ReadAndWritten reportOf own 0 0
@@ -42,5 +42,5 @@ module _ (own : List ℕ) where
       → Run read written last rx store (take kept input) → last ≡ true → kept ≡ 0 → written < 2 ^ 64 → ReadAndWritten reportOf own read written
   unfolding reportOf
   run-ends h read written last rx store input kept u e z small =
-      as-text printed (beginning own) reportOf own read written (λ os. rw (le-ltb (length own) 3 h))
-      (underway-over printed (beginning own) read written last (stateOf rx store) input kept u e z [] (printed-none (stateOf rx store)) written (omega arith))
+      as-text reportFrom (freshOver own) reportOf own read written (λ os. rw (le-ltb (length own) 3 h))
+      (underway-over reportFrom (freshOver own) read written last (stateOf rx store) input kept u e z [] (report-none (stateOf rx store)) written (omega arith))

@@ -6,11 +6,11 @@ use Prim.Native.Nat.{ℕ}
 use lib.ListN.{take}
 use Rattle.receiver_state.specs.declared.Receiver.{Receiver}
 use Rattle.logs.specs.Log.{stateOf}
-use Rattle.replays.specs.Replay.{printed}
+use Rattle.replays.specs.Replay.{reportFrom}
 use Rattle.inputs.specs.Parts.{Answers}
 use Rattle.replay.specs.declared.Turn.{Turn}
 
 -- a turn over the first octets of the input
-abbrev pub Turned : Receiver → List ℕ → List ℕ → ℕ → Bool → Turn → List ℕ → List ℕ → Type 0
-Turned rx store input size last t store′ input′ =
-    Answers printed (stateOf rx store) (take size input) last (t .letters) (t .kept) (stateOf (t .receiver) store′) (take (t .kept) input′)
+abbrev pub ReplayTurn : Receiver → List ℕ → List ℕ → ℕ → Bool → Turn → List ℕ → List ℕ → Type 0
+ReplayTurn rx store input size last t store′ input′ =
+    Answers reportFrom (stateOf rx store) (take size input) last (t .letters) (t .kept) (stateOf (t .receiver) store′) (take (t .kept) input′)

@@ -4,9 +4,9 @@ ghost use mathlib.Core.Path.{_≡_};
 ghost use Prim.Native.Nat.{_≤_};
 ghost use lib.ListN.{length};
 ghost use Rattle.receiver_state.specs.Receiver.{storeSize};
-ghost use Rattle.replays.specs.Text.{lineRoom};
+ghost use Rattle.replays.specs.Text.{reportRoom};
 ghost use Rattle.replay.specs.Reports.{Reported};
-ghost use Rattle.replay.specs.Parts.{Turned};
+ghost use Rattle.replay.specs.Parts.{ReplayTurn};
 use receiver_state::Receiver;
 use receiver_state::STORE;
 
@@ -37,8 +37,8 @@ fn answer(
     last: bool,
     text: &mut [u8],
 ) -> Turn
-    requires { ⌜ (length (now store) ≡ storeSize) × (size ≤ length (now input)) × (lineRoom ≤ length (now text)) ⌝ }
-    ensures { λ r. ⌜ Turned rx (now (store .entry)) (now (input .entry)) size last r (now (store .exit)) (now (input .exit)) ⌝ }
+    requires { ⌜ (length (now store) ≡ storeSize) × (size ≤ length (now input)) × (reportRoom ≤ length (now text)) ⌝ }
+    ensures { λ r. ⌜ ReplayTurn rx (now (store .entry)) (now (input .entry)) size last r (now (store .exit)) (now (input .exit)) ⌝ }
 {
     let replayed = replays::replay(rx, store, &input[..size], last, text);
     let end = replayed.end;

@@ -19,8 +19,8 @@ use Rattle.history.specs.Run.{State}
 use Rattle.history.specs.Claims.{Octets}
 use Rattle.logs.specs.Log.{Record, stateOf}
 use Rattle.replays.specs.Log.{records, octetsTaken, recordsOf}
-use Rattle.replays.specs.Text.{lineText, reportText, lineRoom}
-use Rattle.replays.specs.Replay.{lineGiven, leftBy, linesGiven, leftByAll, printed, replayNumber, recordsAnswered, replayed, storeAfter, textAfter}
+use Rattle.replays.specs.Text.{lineText, reportText, reportRoom}
+use Rattle.replays.specs.Replay.{lineGiven, leftByRecord, linesGiven, leftByRecords, reportFrom, replayNumber, recordsAnswered, replayed, storeReplayed, textReplayed}
 use Rattle.replays.specs.Claims.{ReplayClaims}
 use Rattle.replays.specs.declared.Replayed.{Replayed}
 use Rattle.replays.proofs.Records.{splits, some-taken}
@@ -29,16 +29,16 @@ use Rattle.replays.proofs.Runs.{textOf, text-cons, left-cons}
 
 -- ---- the whole text
 
-text-append : (s : State) (rs qs : List Record) → textOf s (rs ++ qs) ≡ textOf s rs ++ textOf (leftByAll s rs) qs
-unfolding leftByAll reportText linesGiven
+text-append : (s : State) (rs qs : List Record) → textOf s (rs ++ qs) ≡ textOf s rs ++ textOf (leftByRecords s rs) qs
+unfolding leftByRecords reportText linesGiven
 text-append s [] qs = refl
 text-append s (r ∷ rs) qs =
-    ap (λ (x : List ℕ). lineText (lineGiven s r) ++ x) (text-append (leftBy s r) rs qs)
-    ∙ sym (append-assoc (lineText (lineGiven s r)) (textOf (leftBy s r) rs) (textOf (leftByAll (leftBy s r) rs) qs))
+    ap (λ (x : List ℕ). lineText (lineGiven s r) ++ x) (text-append (leftByRecord s r) rs qs)
+    ∙ sym (append-assoc (lineText (lineGiven s r)) (textOf (leftByRecord s r) rs) (textOf (leftByRecords (leftByRecord s r) rs) qs))
 
 goes-on : (s : State) (last : Bool) (k : ℕ) (os more : List ℕ) → (last ≡ true → more ≡ [])
-    → printed s (os ++ more) ≡ textOf s (records last k os) ++ printed (leftByAll s (records last k os)) (drop (octetsTaken last k os) os ++ more)
-unfolding printed
+    → reportFrom s (os ++ more) ≡ textOf s (records last k os) ++ reportFrom (leftByRecords s (records last k os)) (drop (octetsTaken last k os) os ++ more)
+unfolding reportFrom
 goes-on s last k os more end =
     ap (textOf s) (splits last k os more end) ∙ text-append s (records last k os) (recordsOf (drop (octetsTaken last k os) os ++ more))
 
@@ -47,7 +47,7 @@ goes-on s last k os more end =
 module _ (rx : Receiver) (store os : List ℕ) (last : Bool) (text : List ℕ) where
   abbrev pub Replays : Replayed → List ℕ → List ℕ → Type 0
   Replays out store′ text′ =
-      (out ≡ replayed rx store os last text) × (store′ ≡ storeAfter rx store os last text) × (text′ ≡ textAfter rx store os last text)
+      (out ≡ replayed rx store os last text) × (store′ ≡ storeReplayed rx store os last text) × (text′ ≡ textReplayed rx store os last text)
       × ReplayClaims (stateOf rx store) os last text out store′ text′
 
   abbrev refusal : Replayed
@@ -57,7 +57,7 @@ module _ (rx : Receiver) (store os : List ℕ) (last : Bool) (text : List ℕ) w
   no-claims = record { goes-on = λ z. absurd (omega (arith, z)); by-rule = λ z. absurd (omega (arith, z)); ends = omega arith; takes = omega arith; takes-on = λ z. absurd (omega (arith, z)) }
 
   refuses : replayNumber store text ≡ 1 → Replays refusal store text
-  unfolding replayed storeAfter textAfter
+  unfolding replayed storeReplayed textReplayed
   refuses e = rw e (refl, refl, refl, no-claims)
 
   pub other-store : length store ≢ storeSize → Replays refusal store text
@@ -65,21 +65,21 @@ module _ (rx : Receiver) (store os : List ℕ) (last : Bool) (text : List ℕ) w
   other-store h = refuses (rw (ne-eqb (length store) storeSize h))
 
   module _ (room : length store ≡ storeSize) where
-    pub no-line-room : length text < lineRoom → Replays refusal store text
+    pub no-line-room : length text < reportRoom → Replays refusal store text
     unfolding replayNumber firstFailed
-    no-line-room h = refuses (rw (eq-eqb (length store) storeSize room, lt-leb lineRoom (length text) h))
+    no-line-room h = refuses (rw (eq-eqb (length store) storeSize room, lt-leb reportRoom (length text) h))
 
-    module _ (line : lineRoom ≤ length text) where
+    module _ (line : reportRoom ≤ length text) where
       taken-on : replayNumber store text ≡ 0
       unfolding replayNumber firstFailed
-      taken-on = rw (eq-eqb (length store) storeSize room, le-leb lineRoom (length text) line)
+      taken-on = rw (eq-eqb (length store) storeSize room, le-leb reportRoom (length text) line)
 
       pub taken-number : replayed rx store os last text .number ≡ 0
       unfolding replayed
       taken-number = rw taken-on
 
       abbrev k : ℕ
-      k = length text / lineRoom
+      k = length text / reportRoom
 
       abbrev rs : List Record
       rs = records last k os
@@ -87,8 +87,8 @@ module _ (rx : Receiver) (store os : List ℕ) (last : Bool) (text : List ℕ) w
       abbrev s : State
       s = stateOf rx store
 
-      module _ (octets : Octets os) (rx′ : Receiver) (store′ : List ℕ) (taken end : ℕ) (text′ : List ℕ) (left : stateOf rx′ store′ ≡ leftByAll s rs)
-          (wrote : Wrote (textOf s rs) text 0 end text′) (few : end ≤ lineRoom * k) (et : taken ≡ octetsTaken last k os) (inside : taken ≤ length os) where
+      module _ (octets : Octets os) (rx′ : Receiver) (store′ : List ℕ) (taken end : ℕ) (text′ : List ℕ) (left : stateOf rx′ store′ ≡ leftByRecords s rs)
+          (wrote : Wrote (textOf s rs) text 0 end text′) (few : end ≤ reportRoom * k) (et : taken ≡ octetsTaken last k os) (inside : taken ≤ length os) where
         abbrev given : Replayed
         given = record { number = 0; receiver = rx′; taken = taken; end = end }
 
@@ -102,7 +102,7 @@ module _ (rx : Receiver) (store os : List ℕ) (last : Bool) (text : List ℕ) w
         unfolding recordsAnswered
         the-claims = record {
           goes-on = λ z more none. goes-on s last k os more none
-              ∙ ap₂ _++_ (sym front) (ap₂ (λ (x : State) (n : ℕ). printed x (drop n os ++ more)) (sym left) (sym et));
+              ∙ ap₂ _++_ (sym front) (ap₂ (λ (x : State) (n : ℕ). reportFrom x (drop n os ++ more)) (sym left) (sym et));
           by-rule = λ z own first past small size possible e.
               as-the-rule own first past rs small size possible (given-all last k os octets) s (stateOf rx′ store′) e left;
           ends = ends;
@@ -111,7 +111,7 @@ module _ (rx : Receiver) (store os : List ℕ) (last : Bool) (text : List ℕ) w
         }
 
         pub replays : Replays given store′ text′
-        unfolding replayed storeAfter textAfter recordsAnswered
+        unfolding replayed storeReplayed textReplayed recordsAnswered
         replays =
             let ended : end ≡ length (textOf s rs) = wrote .0 ∙ zero-add _ in
             rw taken-on (

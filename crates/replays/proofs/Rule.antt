@@ -24,7 +24,7 @@ use Rattle.history.proofs.Claims as history
 use Rattle.logs.specs.Log.{Record, act, none, recordOf, Line, answer, restarted, lineOf, afterRecord}
 use Rattle.replays.specs.Log.{recordEnd, isWhole, firstRecord, records, actionsOf}
 use Rattle.replays.specs.Rule.{linesFrom}
-use Rattle.replays.specs.Replay.{lineGiven, leftBy, linesGiven, leftByAll}
+use Rattle.replays.specs.Replay.{lineGiven, leftByRecord, linesGiven, leftByRecords}
 use Rattle.replays.specs.Claims.{LogClaims, AsTheRule}
 use Rattle.replays.proofs.Forms.{form-is}
 
@@ -124,12 +124,12 @@ module _ (s : State) (fit : receiverGood (s .receiver) ≡ true) (r : Record) wh
   unfolding lineGiven
   line-good = rw fit
 
-  left-good : leftBy s r ≡ afterRecord s r
-  unfolding leftBy
+  left-good : leftByRecord s r ≡ afterRecord s r
+  unfolding leftByRecord
   left-good = rw fit
 
 lines-first : (own : RadioAddress) (p : History) (r : Record) (rs : List Record) (s : State) → Reports own s p r → receiverGood (s .receiver) ≡ true
-    → linesGiven (leftBy s r) rs ≡ linesFrom own (historyAfter own p r) rs → linesGiven s (r ∷ rs) ≡ linesFrom own p (r ∷ rs)
+    → linesGiven (leftByRecord s r) rs ≡ linesFrom own (historyAfter own p r) rs → linesGiven s (r ∷ rs) ≡ linesFrom own p (r ∷ rs)
 unfolding linesGiven
 lines-first own p r rs s t fit e = ap₂ (λ (l : Line) (ls : List Line). l ∷ ls) (line-good s fit r) e ∙ sym (t .lines rs)
 
@@ -140,7 +140,7 @@ by-rule-all own (r ∷ rs) s p g f =
     let t = record-step own s p f r (g .0) in
     let fit = good own s p f in
     let later = subst (λ (x : State). Follows own x (historyAfter own p r)) (sym (left-good s fit r)) (t .follows) in
-    lines-first own p r rs s t fit (by-rule-all own rs (leftBy s r) (historyAfter own p r) (g .1) later)
+    lines-first own p r rs s t fit (by-rule-all own rs (leftByRecord s r) (historyAfter own p r) (g .1) later)
 
 -- the run over the actions of the records
 one-left : (s : State) (r : Record) (rs : List Record) → left s (actionsOf (r ∷ rs)) ≡ left (afterRecord s r) (actionsOf rs)
@@ -150,14 +150,14 @@ one-left s (act (restart s0 s1 store)) rs = refl
 one-left s none rs = refl
 
 pub leaves-all : (own : RadioAddress) (rs : List Record) (s : State) (p : History) → GivenAll rs → Follows own s p
-    → leftByAll s rs ≡ left s (actionsOf rs)
-unfolding leftByAll actionsOf left
+    → leftByRecords s rs ≡ left s (actionsOf rs)
+unfolding leftByRecords actionsOf left
 leaves-all own [] s p g f = refl
 leaves-all own (r ∷ rs) s p g f =
     let t = record-step own s p f r (g .0) in
     let e = left-good s (good own s p f) r in
     let later = subst (λ (x : State). Follows own x (historyAfter own p r)) (sym e) (t .follows) in
-    leaves-all own rs (leftBy s r) (historyAfter own p r) (g .1) later ∙ ap (λ (x : State). left x (actionsOf rs)) e ∙ sym (one-left s r rs)
+    leaves-all own rs (leftByRecord s r) (historyAfter own p r) (g .1) later ∙ ap (λ (x : State). left x (actionsOf rs)) e ∙ sym (one-left s r rs)
 
 -- ---- from a fresh receiver, behind any past
 
@@ -173,7 +173,7 @@ module _ (own : RadioAddress) (first : List ℕ) (past rs : List Record) (small 
     savable = history.claims .savable own first (actionsOf (past ++ rs)) small room all-possible;
   }
 
-  pub as-the-rule : (s s′ : State) → s ≡ left (freshState own first) (actionsOf past) → s′ ≡ leftByAll s rs → AsTheRule own first past rs s s′
+  pub as-the-rule : (s s′ : State) → s ≡ left (freshState own first) (actionsOf past) → s′ ≡ leftByRecords s rs → AsTheRule own first past rs s s′
   as-the-rule s s′ e e′ =
       let p = historyFrom own nothing (events (actionsOf past)) in
       let f : Follows own s p =

@@ -14,16 +14,16 @@ use Rattle.foundation.proofs.Tests.{either}
 use Rattle.foundation.specs.Order.{firstFailed}
 use Rattle.receiver_state.specs.Receiver.{storeSize, receiverGood}
 use Rattle.receiver_state.specs.declared.Receiver.{Receiver}
-use Rattle.texts.specs.Texts.{Wrote}
+use Rattle.texts.specs.Texts.{Wrote, AtMost}
 use Rattle.texts.proofs.Writing.{wrote-none, behind}
 use Rattle.history.specs.Run.{State}
 use Rattle.transactions.specs.Answers.{refused}
 use Rattle.logs.specs.Log.{Record, recordOf, Line, answer, lineOf, afterRecord, lineSize, lineIn, recordNumber, stateOf, recorded, recordStore, recordLine}
 use Rattle.logs.specs.declared.recording.Recorded.{Recorded}
 use Rattle.replays.specs.Log.{records, octetsTaken}
-use Rattle.replays.specs.Text.{lineText, reportText, lineRoom}
-use Rattle.replays.specs.Replay.{lineGiven, leftBy, linesGiven, leftByAll}
-use Rattle.replays.specs.Parts.{Cuts, codeText, octetsLine, AtMost}
+use Rattle.replays.specs.Text.{lineText, reportText, reportRoom}
+use Rattle.replays.specs.Replay.{lineGiven, leftByRecord, linesGiven, leftByRecords}
+use Rattle.replays.specs.Parts.{Cuts, codeText, octetsLine}
 use Rattle.replays.specs.declared.Cut.{Cut}
 
 -- ---- one record, as `logs::recording::record` tells it
@@ -48,10 +48,10 @@ module _ (rx : Receiver) (store : List ℕ) (r : Record) (line : List ℕ) (room
         (text′ : List ℕ) where
       abbrev Answered : Type 0
       Answered =
-          (stateOf (out .receiver) store′ ≡ leftBy (stateOf rx store) r) × AtMost lineRoom (lineText (lineGiven (stateOf rx store) r)) text at end text′
+          (stateOf (out .receiver) store′ ≡ leftByRecord (stateOf rx store) r) × AtMost reportRoom (lineText (lineGiven (stateOf rx store) r)) text at end text′
 
-      pub refused-step : out .number ≢ 0 → AtMost lineRoom (codeText 0 (1 ∷ [])) text at end text′ → Answered
-      unfolding recorded recordStore leftBy lineGiven codeText lineText
+      pub refused-step : out .number ≢ 0 → AtMost reportRoom (codeText 0 (1 ∷ [])) text at end text′ → Answered
+      unfolding recorded recordStore leftByRecord lineGiven codeText lineText
       refused-step z w =
           let bad = bad-told z in
           let n : recordNumber rx store line ≡ 1 = rw bad at number-is in
@@ -60,15 +60,15 @@ module _ (rx : Receiver) (store : List ℕ) (r : Record) (line : List ℕ) (room
           rw bad (ap₂ stateOf same kept, w)
 
       pub taken-step : out .number ≡ 0 → octetsLine (lineIn (lineOf (stateOf rx store) r)) ≡ lineText (lineOf (stateOf rx store) r)
-          → AtMost lineRoom (octetsLine line′) text at end text′ → Answered
-      unfolding recorded recordStore recordLine leftBy lineGiven
+          → AtMost reportRoom (octetsLine line′) text at end text′ → Answered
+      unfolding recorded recordStore recordLine leftByRecord lineGiven
       taken-step z spelled w =
           let good = good-told z in
           let n : recordNumber rx store line ≡ 0 = rw good at number-is in
           let next : out .receiver ≡ afterRecord (stateOf rx store) r .receiver = ap (λ (x : Recorded). x .receiver) e ∙ rw n in
           let left : store′ ≡ afterRecord (stateOf rx store) r .store = es ∙ rw n in
           let said : octetsLine line′ ≡ lineText (lineOf (stateOf rx store) r) = ap octetsLine (el ∙ rw n) ∙ spelled in
-          rw good (ap₂ stateOf next left, subst (λ (os : List ℕ). AtMost lineRoom os text at end text′) said w)
+          rw good (ap₂ stateOf next left, subst (λ (os : List ℕ). AtMost reportRoom os text at end text′) said w)
 
       pub store-told : out .number ≡ 0 → store′ ≡ afterRecord (stateOf rx store) r .store
       unfolding recordStore
@@ -84,16 +84,16 @@ text-none : (s : State) → textOf s [] ≡ []
 unfolding reportText linesGiven
 text-none s = refl
 
-pub text-cons : (s : State) (r : Record) (rs : List Record) → textOf s (r ∷ rs) ≡ lineText (lineGiven s r) ++ textOf (leftBy s r) rs
+pub text-cons : (s : State) (r : Record) (rs : List Record) → textOf s (r ∷ rs) ≡ lineText (lineGiven s r) ++ textOf (leftByRecord s r) rs
 unfolding reportText linesGiven
 text-cons s r rs = refl
 
-pub left-cons : (s : State) (r : Record) (rs : List Record) → leftByAll s (r ∷ rs) ≡ leftByAll (leftBy s r) rs
-unfolding leftByAll
+pub left-cons : (s : State) (r : Record) (rs : List Record) → leftByRecords s (r ∷ rs) ≡ leftByRecords (leftByRecord s r) rs
+unfolding leftByRecords
 left-cons s r rs = refl
 
-left-none : (s : State) → leftByAll s [] ≡ s
-unfolding leftByAll
+left-none : (s : State) → leftByRecords s [] ≡ s
+unfolding leftByRecords
 left-none s = refl
 
 -- i records are answered and their lines stand in front; what is left leads to where the whole leads
@@ -103,8 +103,8 @@ pub record Midway (s : State) (os : List ℕ) (last : Bool) (most : ℕ) (text :
   pub inside : at ≤ length os
   pub room : length (s′ .store) ≡ storeSize
   pub wrote : Wrote done text 0 end text′
-  pub few : length done ≤ lineRoom * i
-  pub left : leftByAll s (records last most os) ≡ leftByAll s′ (records last (most - i) (drop at os))
+  pub few : length done ≤ reportRoom * i
+  pub left : leftByRecords s (records last most os) ≡ leftByRecords s′ (records last (most - i) (drop at os))
   pub lines : textOf s (records last most os) ≡ done ++ textOf s′ (records last (most - i) (drop at os))
   pub taken : octetsTaken last most os ≡ at + octetsTaken last (most - i) (drop at os)
 
@@ -128,13 +128,13 @@ module _ (s : State) (os : List ℕ) (last : Bool) (most : ℕ) (text : List ℕ
     pub midway-length : length text′ ≡ length text
     midway-length = ap length (m .wrote .1) ∙ length-put text 0 (m .done)
 
-    module _ (room : lineRoom * most ≤ length text) where
-      pub midway-room : i < most → end + lineRoom ≤ length text′
+    module _ (room : reportRoom * most ≤ length text) where
+      pub midway-room : i < most → end + reportRoom ≤ length text′
       midway-room h = omega (arith, m .wrote .0, m .few, midway-length)
 
       pub midway-more : (c : Cut) → i < most → Cuts os at last c → c .come ≡ true → (s″ : State) (end″ : ℕ) (text″ : List ℕ)
-          → s″ ≡ leftBy s′ (recordOf (c .kind) (take (c .end - c .start) (drop (c .start) os)))
-          → AtMost lineRoom (lineText (lineGiven s′ (recordOf (c .kind) (take (c .end - c .start) (drop (c .start) os))))) text′ end end″ text″
+          → s″ ≡ leftByRecord s′ (recordOf (c .kind) (take (c .end - c .start) (drop (c .start) os)))
+          → AtMost reportRoom (lineText (lineGiven s′ (recordOf (c .kind) (take (c .end - c .start) (drop (c .start) os))))) text′ end end″ text″
           → length (s″ .store) ≡ storeSize → Midway s os last most text (i + 1) (c .end) s″ end″ text″
       midway-more c h u come s″ end″ text″ left w size =
           let r = recordOf (c .kind) (take (c .end - c .start) (drop (c .start) os)) in
@@ -143,7 +143,7 @@ module _ (s : State) (os : List ℕ) (last : Bool) (most : ℕ) (text : List ℕ
           let later = records last k (drop (c .end) os) in
           let step : records last (most - i) (drop at os) ≡ r ∷ later = ap (λ (j : ℕ). records last j (drop at os)) n ∙ u .first come k in
           let line = lineText (lineGiven s′ r) in
-          let long : length line ≤ lineRoom = omega (arith, w .0 .0, w .1) in
+          let long : length line ≤ reportRoom = omega (arith, w .0 .0, w .1) in
           let go : at < c .end = u .later come in
           let octets : octetsTaken last (most - i) (drop at os) ≡ (c .end - at) + octetsTaken last k (drop (c .end) os) =
           ap (λ (j : ℕ). octetsTaken last j (drop at os)) n ∙ u .taken come k in
@@ -154,7 +154,7 @@ module _ (s : State) (os : List ℕ) (last : Bool) (most : ℕ) (text : List ℕ
             room = size;
             wrote = behind (m .done) line text 0 end text′ end″ text″ (omega (arith, m .few)) (m .wrote) (w .0);
             few = omega (arith, m .few, length-append (m .done) line);
-            left = m .left ∙ ap (leftByAll s′) step ∙ left-cons s′ r later ∙ ap (λ (x : State). leftByAll x later) (sym left);
+            left = m .left ∙ ap (leftByRecords s′) step ∙ left-cons s′ r later ∙ ap (λ (x : State). leftByRecords x later) (sym left);
             lines = m .lines ∙ ap (λ (rs : List Record). m .done ++ textOf s′ rs) step
                 ∙ ap (λ (x : List ℕ). m .done ++ x) (text-cons s′ r later ∙ ap (λ (x : State). line ++ textOf x later) (sym left))
                 ∙ sym (append-assoc (m .done) line (textOf s″ later));
@@ -163,10 +163,10 @@ module _ (s : State) (os : List ℕ) (last : Bool) (most : ℕ) (text : List ℕ
 
     -- no more are answered
     pub midway-end : records last (most - i) (drop at os) ≡ [] → octetsTaken last (most - i) (drop at os) ≡ 0
-        → (s′ ≡ leftByAll s (records last most os)) × Wrote (textOf s (records last most os)) text 0 end text′ × (end ≤ lineRoom * most)
+        → (s′ ≡ leftByRecords s (records last most os)) × Wrote (textOf s (records last most os)) text 0 end text′ × (end ≤ reportRoom * most)
         × (at ≡ octetsTaken last most os) × (at ≤ length os)
     midway-end none stay =
-        let all-left : leftByAll s (records last most os) ≡ s′ = m .left ∙ ap (leftByAll s′) none ∙ left-none s′ in
+        let all-left : leftByRecords s (records last most os) ≡ s′ = m .left ∙ ap (leftByRecords s′) none ∙ left-none s′ in
         let whole : textOf s (records last most os) ≡ m .done =
         m .lines ∙ ap (λ (rs : List Record). m .done ++ textOf s′ rs) none ∙ ap (λ (x : List ℕ). m .done ++ x) (text-none s′) ∙ append-nil (m .done) in (
           sym all-left,

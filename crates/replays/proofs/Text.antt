@@ -10,7 +10,8 @@ use lib.ListN.{length, getD, take, drop, length-append, take-append-drop, length
 use lib.Seq.{take-all, take-at, drop-at}
 use borrow.Author.Tests.{ne-eqb}
 use Rattle.foundation.proofs.Tests.{either}
-use Rattle.texts.specs.Texts.{decimal, octetsText, blank, lineFeed, parts}
+use Rattle.foundation.proofs.Copying.{take-shorter}
+use Rattle.texts.specs.Texts.{decimal, octetsText, blank, lineFeed, parts, AtMost}
 use Rattle.texts.proofs.Decimals.{short}
 use Rattle.texts.proofs.Writing.{Put, wrote, Chain, total, chained, length-parts, length-octets}
 use Rattle.packets.proofs.HeaderBack.{written-length}
@@ -32,8 +33,8 @@ use Rattle.stored.proofs.ReadingBack.{length-form}
 use Rattle.history.specs.History.{header, block, ended}
 use Rattle.history.specs.Run.{event, restart, State, answerTo, savedForm, afterEvent}
 use Rattle.logs.specs.Log.{Record, act, none, Line, answer, restarted, lineOf, afterRecord, codeOf, contentsOf, lineOctets, lineIn}
-use Rattle.replays.specs.Text.{lineText, lineRoom}
-use Rattle.replays.specs.Parts.{contentsIn, codeText, octetsLine, AtMost}
+use Rattle.replays.specs.Text.{lineText, reportRoom}
+use Rattle.replays.specs.Parts.{contentsIn, codeText, octetsLine}
 
 -- ---- what is written
 
@@ -43,67 +44,67 @@ module _ (n k : ℕ) (os : List ℕ) (e : k ≡ min n (length os)) where
   size = length-take n os ∙ sym e
 
   front : take k os ≡ take n os
-  front = ap (take k) (sym (take-append-drop n os)) ∙ take-at (take n os) (drop n os) k size
+  front = ap (λ (j : ℕ). take j os) e ∙ take-shorter n os
 
   rest : take (length os - k) (drop k os) ≡ drop n os
   rest =
       take-all (length os - k) (drop k os) (omega (arith, length-drop k os))
       ∙ ap (drop k) (sym (take-append-drop n os)) ∙ drop-at (take n os) (drop n os) k size
 
-module _ (d : List ℕ) (at r : ℕ) (m : List ℕ) (room : at + lineRoom ≤ length d) where
-  pub word-written : (w : List ℕ) → length w ≤ lineRoom → Put w d at r m → AtMost lineRoom w d at r m
+module _ (d : List ℕ) (at r : ℕ) (m : List ℕ) (room : at + reportRoom ≤ length d) where
+  pub word-written : (w : List ℕ) → length w ≤ reportRoom → Put w d at r m → AtMost reportRoom w d at r m
   word-written w few p = let x = wrote w d at r m (omega arith) p in (x, omega (arith, x .0))
 
-  parts-written : {ps : List (List ℕ)} → Chain ps d at r m → total ps ≤ lineRoom → AtMost lineRoom (parts ps) d at r m
+  parts-written : {ps : List (List ℕ)} → Chain ps d at r m → total ps ≤ reportRoom → AtMost reportRoom (parts ps) d at r m
   parts-written {ps} c few = let x = chained ps d at r m (omega arith) c in (x, omega (arith, x .0, length-parts ps))
 
-  pub refusal-written : (n : ℕ) → n < 256 → Chain (decimal n ∷ lineFeed ∷ []) d at r m → AtMost lineRoom (codeText 0 (n ∷ [])) d at r m
+  pub refusal-written : (n : ℕ) → n < 256 → Chain (decimal n ∷ lineFeed ∷ []) d at r m → AtMost reportRoom (codeText 0 (n ∷ [])) d at r m
   unfolding codeText
   refusal-written n small c = parts-written c (omega (arith, short 2 n (omega arith)))
 
   module _ (os : List ℕ) (most : length os ≤ 2 * storedBlock) where
     pub message-written : Chain ((0x6D ∷ 0x65 ∷ 0x73 ∷ 0x73 ∷ 0x61 ∷ 0x67 ∷ 0x65 ∷ 0x20 ∷ []) ∷ decimal (length os) ∷ blank ∷ octetsText os
         ∷ lineFeed ∷ []) d at r m
-        → AtMost lineRoom (codeText 5 os) d at r m
+        → AtMost reportRoom (codeText 5 os) d at r m
     unfolding codeText
     message-written c = parts-written c (omega (arith, short 3 (length os) (omega arith), length-octets os))
 
     pub response-written : (n : ℕ) → n ≡ min 12 (length os)
         → Chain ((0x72 ∷ 0x65 ∷ 0x73 ∷ 0x70 ∷ 0x6F ∷ 0x6E ∷ 0x73 ∷ 0x65 ∷ 0x20 ∷ []) ∷ octetsText (take n os) ∷ blank
         ∷ octetsText (take (length os - n) (drop n os)) ∷ lineFeed ∷ []) d at r m
-        → AtMost lineRoom (codeText 6 os) d at r m
+        → AtMost reportRoom (codeText 6 os) d at r m
     unfolding codeText
     response-written n e c =
         parts-written (rw (front 12 n os e, rest 12 n os e) at c)
         (omega (arith, length-octets (take 12 os), length-take 12 os, length-octets (drop 12 os), length-drop 12 os))
 
     pub restored-written : Chain ((0x72 ∷ 0x65 ∷ 0x73 ∷ 0x74 ∷ 0x6F ∷ 0x72 ∷ 0x65 ∷ 0x64 ∷ 0x20 ∷ []) ∷ octetsText os ∷ lineFeed ∷ []) d at r m
-        → AtMost lineRoom (codeText 7 os) d at r m
+        → AtMost reportRoom (codeText 7 os) d at r m
     unfolding codeText
     restored-written c = parts-written c (omega (arith, length-octets os))
 
 -- what is written by code
 module _ (d : List ℕ) (at r : ℕ) (m : List ℕ) (code : ℕ) (os : List ℕ) where
-  pub by-code : (k : ℕ) → code ≡ k → AtMost lineRoom (codeText k os) d at r m → AtMost lineRoom (codeText code os) d at r m
-  by-code k e w = subst (λ (j : ℕ). AtMost lineRoom (codeText j os) d at r m) (sym e) w
+  pub by-code : (k : ℕ) → code ≡ k → AtMost reportRoom (codeText k os) d at r m → AtMost reportRoom (codeText code os) d at r m
+  by-code k e w = subst (λ (j : ℕ). AtMost reportRoom (codeText j os) d at r m) (sym e) w
 
-  pub by-refusal : (n : ℕ) → code ≡ 0 → n ≡ getD os 0 0 → AtMost lineRoom (codeText 0 (n ∷ [])) d at r m → AtMost lineRoom (codeText code os) d at r m
+  pub by-refusal : (n : ℕ) → code ≡ 0 → n ≡ getD os 0 0 → AtMost reportRoom (codeText 0 (n ∷ [])) d at r m → AtMost reportRoom (codeText code os) d at r m
   unfolding codeText
-  by-refusal n e f w = by-code 0 e (subst (λ (j : ℕ). AtMost lineRoom (codeText 0 (j ∷ [])) d at r m) f w)
+  by-refusal n e f w = by-code 0 e (subst (λ (j : ℕ). AtMost reportRoom (codeText 0 (j ∷ [])) d at r m) f w)
 
-  pub by-rest : code ≢ 0 → code ≢ 1 → code ≢ 2 → code ≢ 3 → code ≢ 4 → code ≢ 5 → code ≢ 6 → AtMost lineRoom (codeText 7 os) d at r m
-      → AtMost lineRoom (codeText code os) d at r m
+  pub by-rest : code ≢ 0 → code ≢ 1 → code ≢ 2 → code ≢ 3 → code ≢ 4 → code ≢ 5 → code ≢ 6 → AtMost reportRoom (codeText 7 os) d at r m
+      → AtMost reportRoom (codeText code os) d at r m
   unfolding codeText
   by-rest n0 n1 n2 n3 n4 n5 n6 w =
       rw (ne-eqb code 0 n0, ne-eqb code 1 n1, ne-eqb code 2 n2, ne-eqb code 3 n3, ne-eqb code 4 n4, ne-eqb code 5 n5, ne-eqb code 6 n6) w
 
 -- by the line in octets
 pub octets-written : (d : List ℕ) (at r : ℕ) (m line : List ℕ) (n : ℕ) → n ≡ min (256 * getD line 1 0 + getD line 2 0) (2 * storedBlock)
-    → AtMost lineRoom (codeText (getD line 0 0) (take (3 + n - 3) (drop 3 line))) d at r m → AtMost lineRoom (octetsLine line) d at r m
+    → AtMost reportRoom (codeText (getD line 0 0) (take (3 + n - 3) (drop 3 line))) d at r m → AtMost reportRoom (octetsLine line) d at r m
 unfolding octetsLine contentsIn
 octets-written d at r m line n e w =
     let k : 3 + n - 3 ≡ min (256 * getD line 1 0 + getD line 2 0) (2 * storedBlock) = omega arith in
-    subst (λ (j : ℕ). AtMost lineRoom (codeText (getD line 0 0) (take j (drop 3 line))) d at r m) k w
+    subst (λ (j : ℕ). AtMost reportRoom (codeText (getD line 0 0) (take j (drop 3 line))) d at r m) k w
 
 -- ---- the text of a line's octets
 

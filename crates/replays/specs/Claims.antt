@@ -14,15 +14,15 @@ use Rattle.history.specs.Claims.{Possible, Demand3, Once, freshState}
 use Rattle.logs.specs.Log.{Record, stateOf}
 use Rattle.replays.specs.Log.{actionsOf}
 use Rattle.replays.specs.Rule.{linesFrom}
-use Rattle.replays.specs.Replay.{linesGiven, printed, recordsAnswered}
+use Rattle.replays.specs.Replay.{linesGiven, reportFrom, recordsAnswered}
 use Rattle.replays.specs.declared.Replayed.{Replayed}
 
 -- whatever follows these octets: the whole text is what is written now, and then the whole text of the octets not yet answered and of what
 -- follows, from the receiver and the store that are left. Nothing follows the last octets.
-abbrev pub GoesOn : State → List ℕ → Bool → Replayed → List ℕ → List ℕ → Type 0
-GoesOn s os last r store text =
+abbrev pub ReportGoesOn : State → List ℕ → Bool → Replayed → List ℕ → List ℕ → Type 0
+ReportGoesOn s os last r store text =
     r .number ≡ 0 → (more : List ℕ) → (last ≡ true → more ≡ [])
-    → printed s (os ++ more) ≡ take (r .end) text ++ printed (stateOf (r .receiver) store) (drop (r .taken) os ++ more)
+    → reportFrom s (os ++ more) ≡ take (r .end) text ++ reportFrom (stateOf (r .receiver) store) (drop (r .taken) os ++ more)
 
 -- over actions from a fresh receiver of this address and this store: demand 3, a message handed on at most once between two openings, and a
 -- receiver that can be saved and restored
@@ -39,15 +39,15 @@ pub record AsTheRule (own : RadioAddress) (first : List ℕ) (past rs : List Rec
   pub claims : LogClaims own first (actionsOf (past ++ rs))
 
 -- for every past that led to this receiver and this store
-abbrev pub ByRule : State → List Record → Replayed → List ℕ → Type 0
-ByRule s rs r store =
+abbrev pub ReportsByRule : State → List Record → Replayed → List ℕ → Type 0
+ReportsByRule s rs r store =
     r .number ≡ 0 → (own : RadioAddress) (first : List ℕ) (past : List Record) → own .0 < 2 ^ 24 → length first ≡ storeSize
     → Possible (actionsOf past) → s ≡ left (freshState own first) (actionsOf past) → AsTheRule own first past rs s (stateOf (r .receiver) store)
 
 -- all of these, of what `replay` gives; and that it ends inside the text, takes no more than there is, and takes some of the last octets
 pub record ReplayClaims (s : State) (os : List ℕ) (last : Bool) (text : List ℕ) (r : Replayed) (store′ text′ : List ℕ) : Type 0 where
-  pub goes-on : GoesOn s os last r store′ text′
-  pub by-rule : ByRule s (recordsAnswered last os text) r store′
+  pub goes-on : ReportGoesOn s os last r store′ text′
+  pub by-rule : ReportsByRule s (recordsAnswered last os text) r store′
   pub ends : r .end ≤ length text
   pub takes : r .taken ≤ length os
   pub takes-on : r .number ≡ 0 → last ≡ true → r .taken ≡ 0 → length os ≡ 0

@@ -6,7 +6,7 @@ use mathlib.Core.List.{List, [], _∷_}
 use Prim.Native.Nat.{ℕ, suc, _+_, _*_, _-_, _≤_, _<_, min}
 use lib.Dec.{eqb}
 use lib.ListN.{length, getD, take, drop}
-use Rattle.texts.specs.Texts.{decimal, octetsText, blank, lineFeed, parts, Wrote}
+use Rattle.texts.specs.Texts.{decimal, octetsText, blank, lineFeed, parts}
 use Rattle.stored.specs.Stored.{storedBlock}
 use Rattle.transactions.specs.Answers.{refused, opened, repeat, stored, bad}
 use Rattle.logs.specs.Log.{recordOf, answer}
@@ -45,7 +45,3 @@ codeText code os =
 
 unfoldable pub octetsLine : List ℕ → List ℕ
 octetsLine line = codeText (getD line 0 0) (contentsIn line)
-
--- what is written, and that it takes no more than k octets
-abbrev pub AtMost : ℕ → List ℕ → List ℕ → ℕ → ℕ → List ℕ → Type 0
-AtMost k os d at r m = Wrote os d at r m × (r ≤ at + k)

@@ -13,7 +13,7 @@ use Rattle.receiver_state.specs.declared.Receiver.{Receiver}
 use Rattle.history.specs.Run.{State}
 use Rattle.logs.specs.Log.{Record, Line, answer, lineOf, afterRecord, stateOf}
 use Rattle.replays.specs.Log.{records, octetsTaken, recordsOf}
-use Rattle.replays.specs.Text.{reportText, lineRoom}
+use Rattle.replays.specs.Text.{reportText, reportRoom}
 use Rattle.replays.specs.declared.Replayed.{Replayed}
 
 -- ---- the run
@@ -22,31 +22,31 @@ use Rattle.replays.specs.declared.Replayed.{Replayed}
 unfoldable pub lineGiven : State → Record → Line
 lineGiven s r = cond (receiverGood (s .receiver)) (lineOf s r) (answer (refused 1))
 
-unfoldable pub leftBy : State → Record → State
-leftBy s r = cond (receiverGood (s .receiver)) (afterRecord s r) s
+unfoldable pub leftByRecord : State → Record → State
+leftByRecord s r = cond (receiverGood (s .receiver)) (afterRecord s r) s
 
 -- the same over records in order
 unfoldable pub linesGiven : State → List Record → List Line
 linesGiven s [] = []
-linesGiven s (r ∷ rs) = lineGiven s r ∷ linesGiven (leftBy s r) rs
+linesGiven s (r ∷ rs) = lineGiven s r ∷ linesGiven (leftByRecord s r) rs
 
-unfoldable pub leftByAll : State → List Record → State
-leftByAll s [] = s
-leftByAll s (r ∷ rs) = leftByAll (leftBy s r) rs
+unfoldable pub leftByRecords : State → List Record → State
+leftByRecords s [] = s
+leftByRecords s (r ∷ rs) = leftByRecords (leftByRecord s r) rs
 
 -- the whole text of what is still to come
-unfoldable pub printed : State → List ℕ → List ℕ
-printed s os = reportText (linesGiven s (recordsOf os))
+unfoldable pub reportFrom : State → List ℕ → List ℕ
+reportFrom s os = reportText (linesGiven s (recordsOf os))
 
 -- ---- a part of a log
 
 -- 1 for a store of another size, or a text without room for a line
 unfoldable pub replayNumber : List ℕ → List ℕ → ℕ
-replayNumber store text = firstFailed ((eqb (length store) storeSize, 1) ∷ (leb lineRoom (length text), 1) ∷ [])
+replayNumber store text = firstFailed ((eqb (length store) storeSize, 1) ∷ (leb reportRoom (length text), 1) ∷ [])
 
 -- which records are answered: those that have come, no more than there is room for
 unfoldable pub recordsAnswered : Bool → List ℕ → List ℕ → List Record
-recordsAnswered last os text = records last (length text / lineRoom) os
+recordsAnswered last os text = records last (length text / reportRoom) os
 
 -- the receiver, the store and the text after it; a refusal changes nothing
 unfoldable pub replayed : Receiver → List ℕ → List ℕ → Bool → List ℕ → Replayed
@@ -56,17 +56,17 @@ replayed rx store os last text =
     cond (eqb (replayNumber store text) 0)
     (record {
       number = 0;
-      receiver = leftByAll s rs .receiver;
-      taken = octetsTaken last (length text / lineRoom) os;
+      receiver = leftByRecords s rs .receiver;
+      taken = octetsTaken last (length text / reportRoom) os;
       end = length (reportText (linesGiven s rs));
     })
     (record { number = replayNumber store text; receiver = rx; taken = 0; end = 0 })
 
-unfoldable pub storeAfter : Receiver → List ℕ → List ℕ → Bool → List ℕ → List ℕ
-storeAfter rx store os last text =
-    cond (eqb (replayNumber store text) 0) (leftByAll (stateOf rx store) (recordsAnswered last os text) .store) store
+unfoldable pub storeReplayed : Receiver → List ℕ → List ℕ → Bool → List ℕ → List ℕ
+storeReplayed rx store os last text =
+    cond (eqb (replayNumber store text) 0) (leftByRecords (stateOf rx store) (recordsAnswered last os text) .store) store
 
-unfoldable pub textAfter : Receiver → List ℕ → List ℕ → Bool → List ℕ → List ℕ
-textAfter rx store os last text =
+unfoldable pub textReplayed : Receiver → List ℕ → List ℕ → Bool → List ℕ → List ℕ
+textReplayed rx store os last text =
     cond (eqb (replayNumber store text) 0)
     (put text 0 (reportText (linesGiven (stateOf rx store) (recordsAnswered last os text)))) text

@@ -26,5 +26,5 @@ reportText [] = []
 reportText (l ∷ ls) = lineText l ++ reportText ls
 
 -- room for every line: a word, 4 digits, 1,024 octets in hexadecimal, blanks and the end of the line take less
-abbrev pub lineRoom : ℕ
-lineRoom = 2064
+abbrev pub reportRoom : ℕ
+reportRoom = 2064

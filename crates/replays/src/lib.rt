@@ -9,13 +9,13 @@ ghost use Rattle.addresses.specs.Octets.{addressAt};
 ghost use Rattle.foundation.specs.Order.{all};
 ghost use Rattle.receiver_state.specs.Receiver.{storeSize, freshFor};
 ghost use Rattle.stored.specs.Stored.{storedBlock};
-ghost use Rattle.texts.specs.Texts.{Wrote};
+ghost use Rattle.texts.specs.Texts.{Wrote, AtMost};
 ghost use Rattle.logs.specs.Log.{recordOf, lineSize, stateOf};
 ghost use Rattle.replays.specs.Log.{records, octetsTaken};
-ghost use Rattle.replays.specs.Text.{lineText, reportText, lineRoom};
-ghost use Rattle.replays.specs.Replay.{lineGiven, leftBy, linesGiven, leftByAll, replayed, storeAfter, textAfter};
+ghost use Rattle.replays.specs.Text.{lineText, reportText, reportRoom};
+ghost use Rattle.replays.specs.Replay.{lineGiven, leftByRecord, linesGiven, leftByRecords, replayed, storeReplayed, textReplayed};
 ghost use Rattle.replays.specs.Claims.{ReplayClaims};
-ghost use Rattle.replays.specs.Parts.{Cuts, codeText, octetsLine, AtMost};
+ghost use Rattle.replays.specs.Parts.{Cuts, codeText, octetsLine};
 use logs::recording::LINE;
 use receiver_state::Receiver;
 use receiver_state::STORE;
@@ -52,20 +52,10 @@ pub fn start(own: &[u8]) -> Receiver
 
 // ---- text: each function writes at a place that has room, and says where it ends
 
-// The shorter of two lengths.
-fn shorter(a: usize, b: usize) -> usize
-    ensures { λ r. ⌜ r ≡ min a b ⌝ }
-{
-    if a < b {
-        return a;
-    }
-    b
-}
-
 // A refusal: its number.
 fn put_refusal(text: &mut [u8], at: usize, number: u8) -> usize
-    requires { ⌜ at + lineRoom ≤ length (now text) ⌝ }
-    ensures { λ r. ⌜ AtMost lineRoom (codeText 0 (number ∷ [])) (now (text .entry)) at r (now (text .exit)) ⌝ }
+    requires { ⌜ at + reportRoom ≤ length (now text) ⌝ }
+    ensures { λ r. ⌜ AtMost reportRoom (codeText 0 (number ∷ [])) (now (text .entry)) at r (now (text .exit)) ⌝ }
 {
     let end = texts::put_decimal(text, at, number as u64);
     texts::put_word(text, end, b"\n")
@@ -73,8 +63,8 @@ fn put_refusal(text: &mut [u8], at: usize, number: u8) -> usize
 
 // A message: its length and octets.
 fn put_message(text: &mut [u8], at: usize, message: &[u8]) -> usize
-    requires { ⌜ (at + lineRoom ≤ length (now text)) × (length (now message) ≤ 2 * storedBlock) ⌝ }
-    ensures { λ r. ⌜ AtMost lineRoom (codeText 5 (now (message .entry))) (now (text .entry)) at r (now (text .exit)) ⌝ }
+    requires { ⌜ (at + reportRoom ≤ length (now text)) × (length (now message) ≤ 2 * storedBlock) ⌝ }
+    ensures { λ r. ⌜ AtMost reportRoom (codeText 5 (now (message .entry))) (now (text .entry)) at r (now (text .exit)) ⌝ }
 {
     let size = message.len();
     let first = texts::put_word(text, at, b"message ");
@@ -86,10 +76,10 @@ fn put_message(text: &mut [u8], at: usize, message: &[u8]) -> usize
 
 // A response: its header and its data block.
 fn put_response(text: &mut [u8], at: usize, octets: &[u8]) -> usize
-    requires { ⌜ (at + lineRoom ≤ length (now text)) × (length (now octets) ≤ 2 * storedBlock) ⌝ }
-    ensures { λ r. ⌜ AtMost lineRoom (codeText 6 (now (octets .entry))) (now (text .entry)) at r (now (text .exit)) ⌝ }
+    requires { ⌜ (at + reportRoom ≤ length (now text)) × (length (now octets) ≤ 2 * storedBlock) ⌝ }
+    ensures { λ r. ⌜ AtMost reportRoom (codeText 6 (now (octets .entry))) (now (text .entry)) at r (now (text .exit)) ⌝ }
 {
-    let header = shorter(HEADER, octets.len());
+    let header = foundation::octets::shorter(HEADER, octets.len());
     let first = texts::put_word(text, at, b"response ");
     let second = texts::put_octets(text, first, &octets[..header]);
     let third = texts::put_word(text, second, b" ");
@@ -99,8 +89,8 @@ fn put_response(text: &mut [u8], at: usize, octets: &[u8]) -> usize
 
 // A restart: the stored form.
 fn put_restored(text: &mut [u8], at: usize, form: &[u8]) -> usize
-    requires { ⌜ (at + lineRoom ≤ length (now text)) × (length (now form) ≤ 2 * storedBlock) ⌝ }
-    ensures { λ r. ⌜ AtMost lineRoom (codeText 7 (now (form .entry))) (now (text .entry)) at r (now (text .exit)) ⌝ }
+    requires { ⌜ (at + reportRoom ≤ length (now text)) × (length (now form) ≤ 2 * storedBlock) ⌝ }
+    ensures { λ r. ⌜ AtMost reportRoom (codeText 7 (now (form .entry))) (now (text .entry)) at r (now (text .exit)) ⌝ }
 {
     let first = texts::put_word(text, at, b"restored ");
     let second = texts::put_octets(text, first, form);
@@ -109,8 +99,8 @@ fn put_restored(text: &mut [u8], at: usize, form: &[u8]) -> usize
 
 // The text of a line by its code and contents.
 fn put_contents(text: &mut [u8], at: usize, code: u8, contents: &[u8]) -> usize
-    requires { ⌜ (at + lineRoom ≤ length (now text)) × (length (now contents) ≤ 2 * storedBlock) ⌝ }
-    ensures { λ r. ⌜ AtMost lineRoom (codeText code (now (contents .entry))) (now (text .entry)) at r (now (text .exit)) ⌝ }
+    requires { ⌜ (at + reportRoom ≤ length (now text)) × (length (now contents) ≤ 2 * storedBlock) ⌝ }
+    ensures { λ r. ⌜ AtMost reportRoom (codeText code (now (contents .entry))) (now (text .entry)) at r (now (text .exit)) ⌝ }
 {
     match code {
         0 => put_refusal(text, at, foundation::octets::at(contents, 0)),
@@ -126,10 +116,10 @@ fn put_contents(text: &mut [u8], at: usize, code: u8, contents: &[u8]) -> usize
 
 // The text of a line in octets: code, length of the contents, contents.
 fn put_line(text: &mut [u8], at: usize, line: &[u8]) -> usize
-    requires { ⌜ (at + lineRoom ≤ length (now text)) × (length (now line) ≡ lineSize) ⌝ }
-    ensures { λ r. ⌜ AtMost lineRoom (octetsLine (now (line .entry))) (now (text .entry)) at r (now (text .exit)) ⌝ }
+    requires { ⌜ (at + reportRoom ≤ length (now text)) × (length (now line) ≡ lineSize) ⌝ }
+    ensures { λ r. ⌜ AtMost reportRoom (octetsLine (now (line .entry))) (now (text .entry)) at r (now (text .exit)) ⌝ }
 {
-    let size = shorter(256 * (line[1] as usize) + line[2] as usize, CONTENTS);
+    let size = foundation::octets::shorter(256 * (line[1] as usize) + line[2] as usize, CONTENTS);
     put_contents(text, at, line[0], &line[FIRST..FIRST + size])
 }
 
@@ -202,9 +192,9 @@ fn answer(
     text: &mut [u8],
     at: usize,
 ) -> Told
-    requires { ⌜ (at + lineRoom ≤ length (now text)) × (length (now store) ≡ storeSize) ⌝ }
-    ensures { λ r. ⌜ (stateOf (r .receiver) (now (store .exit)) ≡ leftBy (stateOf rx (now (store .entry))) (recordOf kind (now (octets .entry))))
-        × AtMost lineRoom (lineText (lineGiven (stateOf rx (now (store .entry))) (recordOf kind (now (octets .entry))))) (now (text .entry)) at (r .end) (now (text .exit)) ⌝ }
+    requires { ⌜ (at + reportRoom ≤ length (now text)) × (length (now store) ≡ storeSize) ⌝ }
+    ensures { λ r. ⌜ (stateOf (r .receiver) (now (store .exit)) ≡ leftByRecord (stateOf rx (now (store .entry))) (recordOf kind (now (octets .entry))))
+        × AtMost reportRoom (lineText (lineGiven (stateOf rx (now (store .entry))) (recordOf kind (now (octets .entry))))) (now (text .entry)) at (r .end) (now (text .exit)) ⌝ }
 {
     let mut line = [0u8; LINE];
     let recorded = logs::recording::record(rx, store, kind, octets, &mut line);
@@ -239,10 +229,10 @@ fn answer_all(
     most: usize,
     text: &mut [u8],
 ) -> Step
-    requires { ⌜ (length (now store) ≡ storeSize) × (lineRoom * most ≤ length (now text)) ⌝ }
-    ensures { λ r. ⌜ (stateOf (r .receiver) (now (store .exit)) ≡ leftByAll (stateOf rx (now (store .entry))) (records last most (now (octets .entry))))
+    requires { ⌜ (length (now store) ≡ storeSize) × (reportRoom * most ≤ length (now text)) ⌝ }
+    ensures { λ r. ⌜ (stateOf (r .receiver) (now (store .exit)) ≡ leftByRecords (stateOf rx (now (store .entry))) (records last most (now (octets .entry))))
         × Wrote (reportText (linesGiven (stateOf rx (now (store .entry))) (records last most (now (octets .entry))))) (now (text .entry)) 0 (r .end) (now (text .exit))
-        × (r .end ≤ lineRoom * most) × (r .taken ≡ octetsTaken last most (now (octets .entry))) × (r .taken ≤ length (now (octets .entry))) ⌝ }
+        × (r .end ≤ reportRoom * most) × (r .taken ≡ octetsTaken last most (now (octets .entry))) × (r .taken ≤ length (now (octets .entry))) ⌝ }
 {
     let mut now = rx;
     let mut at: usize = 0;
@@ -293,8 +283,8 @@ pub fn replay(
     text: &mut [u8],
 ) -> Replayed
     ensures { λ r. ⌜ (r ≡ replayed rx (now (store .entry)) (now (octets .entry)) last (now (text .entry)))
-        × (now (store .exit) ≡ storeAfter rx (now (store .entry)) (now (octets .entry)) last (now (text .entry)))
-        × (now (text .exit) ≡ textAfter rx (now (store .entry)) (now (octets .entry)) last (now (text .entry)))
+        × (now (store .exit) ≡ storeReplayed rx (now (store .entry)) (now (octets .entry)) last (now (text .entry)))
+        × (now (text .exit) ≡ textReplayed rx (now (store .entry)) (now (octets .entry)) last (now (text .entry)))
         × ReplayClaims (stateOf rx (now (store .entry))) (now (octets .entry)) last (now (text .entry)) r (now (store .exit)) (now (text .exit)) ⌝ }
 {
     let room = text.len();

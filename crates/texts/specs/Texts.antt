@@ -3,7 +3,7 @@
 use mathlib.Core.Path.{_≡_}
 use mathlib.Core.Bool.{cond}
 use mathlib.Core.List.{List, [], _∷_, _++_}
-use Prim.Native.Nat.{ℕ, zero, suc, _+_, _/_}
+use Prim.Native.Nat.{ℕ, zero, suc, _+_, _/_, _≤_}
 use lib.Dec.{eqb, leb, ltb}
 use lib.ListN.{length}
 use Rattle.io.specs.Digits.{digits}
@@ -46,3 +46,7 @@ endAt text at os = cond (leb (at + length os) (length text)) (at + length os) at
 -- what is written where there is room: a text stands in d at a place, up to r
 abbrev pub Wrote : List ℕ → List ℕ → ℕ → ℕ → List ℕ → Type 0
 Wrote os d at r m = (r ≡ at + length os) × (m ≡ put d at os)
+
+-- and that it takes no more than k octets
+abbrev pub AtMost : ℕ → List ℕ → List ℕ → ℕ → ℕ → List ℕ → Type 0
+AtMost k os d at r m = Wrote os d at r m × (r ≤ at + k)

@@ -6,10 +6,11 @@ use native.Mathlib.Omega.{arith}
 use Prim.Native.Nat.{ℕ, min}
 use lib.ListN.{take, length}
 use lib.Seq.{length-take-le}
+use Rattle.foundation.proofs.Copying.{take-shorter}
+use Rattle.texts.specs.Texts.{AtMost}
 use Rattle.receiver.specs.Events.{said}
-use Rattle.captures.specs.Parts.{AtMost}
 use Rattle.captures.specs.Lines.{deliveryLine, messageLine}
-use Rattle.captures.proofs.Lines.{no-line, confirmed-line, within-store}
+use Rattle.captures.proofs.Lines.{no-line, confirmed-line}
 use borrow.Author.Needs.{needs}
 use Rattle.captures.proofs.put_confirmed.Statement.{statement}
 use Rattle.captures.proofs.put_confirmed.Tie as tie
@@ -78,7 +79,7 @@ returns-6 c =
     let s = c .before .before .before .before .before .shorter in
     confirmed-line (a .index) (a .t) (a .store .now) _ _ _ _ _ _ (c .before .before .before .before .before .before .before .a .given .1)
     (subst (λ (os : List ℕ). AtMost 1302 (messageLine (a .index) (a .t) os) (a .text .now) (a .at) (c .before .before .put-message .result) (c .before .before .put-message .last .0))
-    (ap (λ (k : ℕ). take k (a .store .now)) (s .ensures) ∙ within-store _ (a .store .now)) (c .before .before .put-message .ensures))
+    (ap (λ (k : ℕ). take k (a .store .now)) (s .ensures) ∙ take-shorter _ (a .store .now)) (c .before .before .put-message .ensures))
 
 pub put-confirmed-spec : {M : Type 1} → statement M
 put-confirmed-spec =

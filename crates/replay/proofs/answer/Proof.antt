@@ -6,7 +6,7 @@ use lib.Seq.{length-take-le}
 use lib.ListN.{length, take}
 use Rattle.logs.specs.Log.{stateOf}
 use Rattle.replays.specs.declared.Replayed.{Replayed}
-use Rattle.replays.specs.Replay.{printed}
+use Rattle.replays.specs.Replay.{reportFrom}
 use Rattle.replays.proofs.Replays.{taken-number}
 use Rattle.inputs.proofs.Moving.{rest-first}
 use Rattle.inputs.proofs.Turns.{turn}
@@ -59,7 +59,7 @@ returns c =
     let claims = l .ensures .3 in
     let os = take (a .size) (a .input .now) in
     let number = ap (λ (x : Replayed). x .number) (l .ensures .0) ∙ taken-number (a .rx) (a .store .now) os (a .last) (a .text .now) (p .0) (p .2) in
-    turn printed (stateOf (a .rx) (a .store .now)) _ os (a .last) _ (l .result .end) (l .result .taken) (f .result) _
+    turn reportFrom (stateOf (a .rx) (a .store .now)) _ os (a .last) _ (l .result .end) (l .result .taken) (f .result) _
     (omega (arith, claims .ends, l .kept .1 .1 .1 .1 .0)) (claims .goes-on number) (claims .takes) (claims .takes-on number) (f .ensures .0)
     (rest-first os (l .result .taken) (f .result) _ _ (f .ensures .0) (f .ensures .1))
 

@@ -7,9 +7,9 @@ use lib.ListN.{length, take}
 use borrow.Author.Needs.{needs}
 use Rattle.foundation.proofs.Tests.{never}
 use Rattle.logs.specs.Log.{stateOf}
-use Rattle.replays.specs.Replay.{printed}
+use Rattle.replays.specs.Replay.{reportFrom}
 use Rattle.inputs.proofs.Turns.{underway-answered, underway-read, keeps-few, keeps-all, keeps-none}
-use Rattle.replay.specs.Reports.{beginning}
+use Rattle.replay.specs.Reports.{freshOver}
 use Rattle.replay.proofs.Turning.{Run, run-start, run-short, run-ends}
 use Rattle.replay.proofs.run.Statement.{statement}
 use Rattle.replay.proofs.run.Tie as tie
@@ -60,21 +60,21 @@ loop-again c =
     let own = c .before .before .before .before .before .before .before .before .before .before .before .before .before .before .before .before .before .before .args .own .now in
     let l = c .before .before .before .before .before .before .before .before .before .before .before .before .before .before .loop in
     let w = c .before .before .before .before .before .before .before .before .before .answer in
-    let u = underway-answered printed (beginning own) (l .read) (l .written) (l .last) (stateOf (l .now) (l .store)) (take (l .size) (l .input)) (l .inv .4) (w .result .letters) (w .result .kept) _ _ (w .ensures) _ (c .before .before .wrapping-add-u64 .ensures) in
+    let u = underway-answered reportFrom (freshOver own) (l .read) (l .written) (l .last) (stateOf (l .now) (l .store)) (take (l .size) (l .input)) (l .inv .4) (w .result .letters) (w .result .kept) _ _ (w .ensures) _ (c .before .before .wrapping-add-u64 .ensures) in
     let inside : l .size ≤ length (l .input) = omega (arith, l .inv .1, l .inv .3) in
-    (w .kept .1 .0 ∙ l .inv .0, w .kept .1 .1 .0 ∙ l .inv .1, w .kept .1 .1 .1 .1 .1 .0 ∙ l .inv .2, omega (arith, keeps-few printed (stateOf (l .now) (l .store)) (l .input) (l .size) (l .last) (w .result .letters) (w .result .kept) _ _ (w .ensures) inside, l .inv .3), u)
+    (w .kept .1 .0 ∙ l .inv .0, w .kept .1 .1 .0 ∙ l .inv .1, w .kept .1 .1 .1 .1 .1 .0 ∙ l .inv .2, omega (arith, keeps-few reportFrom (stateOf (l .now) (l .store)) (l .input) (l .size) (l .last) (w .result .letters) (w .result .kept) _ _ (w .ensures) inside, l .inv .3), u)
 
 returns-3 : tie.Need-returns-3 Inv-loop μ-loop
 returns-3 c =
     let own = c .before .before .before .before .before .before .before .before .before .before .before .before .before .before .before .before .before .before .before .args .own .now in
     let l = c .before .before .before .before .before .before .before .before .before .before .before .before .before .before .before .loop in
     let w = c .before .before .before .before .before .before .before .before .before .before .answer in
-    let u = underway-answered printed (beginning own) (l .read) (l .written) (l .last) (stateOf (l .now) (l .store)) (take (l .size) (l .input)) (l .inv .4) (w .result .letters) (w .result .kept) _ _ (w .ensures) _ (c .before .before .before .wrapping-add-u64 .ensures) in
+    let u = underway-answered reportFrom (freshOver own) (l .read) (l .written) (l .last) (stateOf (l .now) (l .store)) (take (l .size) (l .input)) (l .inv .4) (w .result .letters) (w .result .kept) _ _ (w .ensures) _ (c .before .before .before .wrapping-add-u64 .ensures) in
     let inside : l .size ≤ length (l .input) = omega (arith, l .inv .1, l .inv .3) in
     let k = c .before .before .before .wrapping-add-u64 in
     let small : k .result < 2 ^ 64 = omega (arith, k .ensures) in
     λ _. run-ends own (c .before .before .before .before .before .before .before .before .before .before .before .before .before .before .before .before .before .if1 .left) (l .read) (k .result) (l .last) (w .result .receiver) _ _ (w .result .kept) u (c .if4 .taken)
-    (keeps-none printed (stateOf (l .now) (l .store)) (l .input) (l .size) (l .last) (w .result .letters) (w .result .kept) _ _ (w .ensures) inside (c .if4 .taken) (omega arith)) small
+    (keeps-none reportFrom (stateOf (l .now) (l .store)) (l .input) (l .size) (l .last) (w .result .letters) (w .result .kept) _ _ (w .ensures) inside (c .if4 .taken) (omega arith)) small
 
 slice-aggregate-read-behind : tie.Need-slice-aggregate-read-behind Inv-loop μ-loop
 slice-aggregate-read-behind c = search needs
@@ -96,13 +96,13 @@ loop-again-2 c =
     let own = c .before .before .before .before .before .before .before .before .before .before .before .before .before .before .before .before .before .before .before .before .before .before .before .before .before .before .args .own .now in
     let l = c .before .before .before .before .before .before .before .before .before .before .before .before .before .before .before .before .before .before .before .before .before .before .loop in
     let w = c .before .before .before .before .before .before .before .before .before .before .before .before .before .before .before .before .before .answer in
-    let u = underway-answered printed (beginning own) (l .read) (l .written) (l .last) (stateOf (l .now) (l .store)) (take (l .size) (l .input)) (l .inv .4) (w .result .letters) (w .result .kept) _ _ (w .ensures) _ (c .before .before .before .before .before .before .before .before .before .before .wrapping-add-u64 .ensures) in
+    let u = underway-answered reportFrom (freshOver own) (l .read) (l .written) (l .last) (stateOf (l .now) (l .store)) (take (l .size) (l .input)) (l .inv .4) (w .result .letters) (w .result .kept) _ _ (w .ensures) _ (c .before .before .before .before .before .before .before .before .before .before .wrapping-add-u64 .ensures) in
     let inside : l .size ≤ length (l .input) = omega (arith, l .inv .1, l .inv .3) in
     let r = c .before .before .before .before .before .read-behind in
     let room = w .kept .1 .1 .0 ∙ l .inv .1 in
-    let kept = keeps-all printed (stateOf (l .now) (l .store)) (l .input) (l .size) (l .last) (w .result .letters) (w .result .kept) _ _ (w .ensures) inside (omega arith) in
+    let kept = keeps-all reportFrom (stateOf (l .now) (l .store)) (l .input) (l .size) (l .last) (w .result .letters) (w .result .kept) _ _ (w .ensures) inside (omega arith) in
     let whole : l .size ≤ length (c .before .before .before .before .before .before .before .before .before .before .before .before .before .before .before .before .before .answer .last .1 .1 .0) = omega (arith, room, l .inv .3) in
-    (w .kept .1 .0 ∙ l .inv .0, r .kept .0 ∙ room, w .kept .1 .1 .1 .1 .1 .0 ∙ l .inv .2, omega (arith, room, r .ensures .inside whole), underway-read _ (l .size) (r .result) _ (r .ensures) whole (r .kept .0) printed (beginning own) (l .read) _ (l .last) _ (w .result .kept) u (c .before .before .before .before .before .before .before .if4 .left) kept _ refl _ (c .before .wrapping-add-u642 .ensures))
+    (w .kept .1 .0 ∙ l .inv .0, r .kept .0 ∙ room, w .kept .1 .1 .1 .1 .1 .0 ∙ l .inv .2, omega (arith, room, r .ensures .inside whole), underway-read _ (l .size) (r .result) _ (r .ensures) whole (r .kept .0) reportFrom (freshOver own) (l .read) _ (l .last) _ (w .result .kept) u (c .before .before .before .before .before .before .before .if4 .left) kept _ refl _ (c .before .wrapping-add-u642 .ensures))
 
 returns-4 : tie.Need-returns-4 Inv-loop μ-loop
 returns-4 c = λ t. never t refl

@@ -1,12 +1,14 @@
 -- `logs::recording::put_answer` meets its contract.
 -- Assumes nothing.
 use mathlib.Core.Path.{sym, ap, _∙_}
+use Prim.Native.Nat.{ℕ, _≤_}
 use native.Mathlib.Omega.{arith}
-use lib.ListN.{length}
+use lib.ListN.{length, take}
 use lib.Seq.{length-take-le}
 use Rattle.receiver.specs.Events.{said}
 use Rattle.logs.specs.Log.{codeOf, contentsOf, lineOctets, lineIn}
-use Rattle.logs.proofs.Lines.{shorter-within, take-shorter, said-line}
+use Rattle.logs.proofs.Lines.{said-line}
+use Rattle.foundation.proofs.Copying.{take-shorter}
 use borrow.Author.Needs.{needs}
 use Rattle.logs.proofs.recording.put_answer.Statement.{statement}
 use Rattle.logs.proofs.recording.put_answer.Tie as tie
@@ -61,12 +63,12 @@ shorter-requires c κs = search needs
 
 slice-aggregate-put-5 : tie.Need-slice-aggregate-put-5
 slice-aggregate-put-5 c = let s = c .before .before .shorter in
-    sym (length-take-le _ _ (shorter-within (s .result) _ _ (s .ensures)))
+    sym (length-take-le _ _ (omega (arith, s .ensures)))
 
 put-requires-5 : tie.Need-put-requires-5
 put-requires-5 c κs = let s = c .before .before .shorter in
     let store = c .before .before .before .before .before .before .before .before .args .store .now in
-    let l = shorter-within (s .result) _ (length store) (s .ensures) in
+    let l : s .result ≤ length store = omega (arith, s .ensures) in
     (c .before .before .before .before .before .before .before .before .pre .0, rw (length-take-le (s .result) store l) (omega arith))
 
 same-length : tie.Need-same-length
@@ -111,7 +113,7 @@ returns-6 : tie.Need-returns-6
 unfolding lineIn codeOf contentsOf said
 returns-6 c = let store = c .before .before .before .before .before .before .before .before .before .before .before .args .store .now in
     let s = c .before .before .before .before .before .shorter in
-    said-line store _ _ _ (c .before .before .before .before .before .before .before .a2 .given .1) (c .before .before .put5 .ensures ∙ ap (lineOctets 5) (take-shorter (s .result) _ store (s .ensures)))
+    said-line store _ _ _ (c .before .before .before .before .before .before .before .a2 .given .1) (c .before .before .put5 .ensures ∙ ap (lineOctets 5) (ap (λ (k : ℕ). take k store) (s .ensures) ∙ take-shorter _ store))
 
 pub put-answer-spec : {M : Type 1} → statement M
 put-answer-spec =
