@@ -7,6 +7,7 @@ use Prim.Native.Nat.{ℕ, _+_, _%_, _^_, _≤_, _<_}
 use native.Mathlib.Omega.{arith}
 use lib.ListN.{length, take, replicate}
 use borrow.Author.Tests.{lt-ltb, le-ltb}
+use Rattle.foundation.proofs.Tests.{never}
 use Rattle.receiver_state.specs.Receiver.{storeSize}
 use Rattle.counting.specs.Counts.{countsOf}
 use Rattle.captures.specs.declared.Gateway.{Gateway}
@@ -18,7 +19,7 @@ use Rattle.captures.proofs.Runs.{lines-none}
 use Rattle.inputs.specs.Inputs.{ReadAndWritten}
 use Rattle.inputs.specs.Parts.{Underway}
 use Rattle.inputs.proofs.Turns.{underway-start, underway-over, as-text}
-use Rattle.listings.specs.Listings.{beginning, listingOf, Listed}
+use Rattle.listings.specs.Listings.{beginning, listingOf, WritesListing}
 use Rattle.listings.specs.declared.Ended.{Ended}
 
 pub line-fits : (l : Listing) (n : ℕ) → n ≡ 65536 → lineRoom l ≤ n
@@ -40,11 +41,11 @@ module _ (l : Listing) (own : List ℕ) where
   run-start g e = subst (λ (x : Gateway). Run 0 0 false x (replicate storeSize 0) []) (sym e) (underway-start (printed l) (beginning own))
 
   module _ (r : Ended) (read written : ℕ) (er : r .read ≡ read) where
-    counted : (w : ℕ) → r .written ≡ w → ReadAndWritten (listingOf l) own read w → Listed l own r
+    counted : (w : ℕ) → r .written ≡ w → ReadAndWritten (listingOf l) own read w → WritesListing l own r
     counted w ew x t = subst (λ (n : ℕ). ReadAndWritten (listingOf l) own n (r .written)) (sym er) (subst (ReadAndWritten (listingOf l) own read) (sym ew) x)
 
     -- an own address that is cut short
-    pub run-short : length own < 3 → read ≡ 0 → written ≡ 0 → r .written ≡ (written + length (closing l (countsOf []))) % 2 ^ 64 → Listed l own r
+    pub run-short : length own < 3 → read ≡ 0 → written ≡ 0 → r .written ≡ (written + length (closing l (countsOf []))) % 2 ^ 64 → WritesListing l own r
     unfolding listingOf
     run-short h zr zw ew = counted _ ew (record {
       read = [];
@@ -55,8 +56,12 @@ module _ (l : Listing) (own : List ℕ) where
     })
 
     pub run-ends : 3 ≤ length own → (last : Bool) (g : Gateway) (store input : List ℕ) (kept : ℕ) → Run read written last g store (take kept input)
-        → last ≡ true → kept ≡ 0 → r .written ≡ (written + length (closing l (g .counts))) % 2 ^ 64 → Listed l own r
+        → last ≡ true → kept ≡ 0 → r .written ≡ (written + length (closing l (g .counts))) % 2 ^ 64 → WritesListing l own r
     unfolding listingOf
     run-ends h last g store input kept u e z ew =
         counted _ ew (as-text (printed l) (beginning own) (listingOf l) own read _ (λ os. rw (le-ltb (length own) 3 h))
         (underway-over (printed l) (beginning own) read written last (running g store) input kept u e z (closing l (g .counts)) (printed-none l (running g store)) _ refl))
+
+  -- a run that stopped before
+  pub run-stops : (r : Ended) → r .whole ≡ false → WritesListing l own r
+  run-stops r e t = never t e

@@ -23,5 +23,5 @@ unfoldable pub listingOf : Listing → List ℕ → List ℕ → List ℕ
 listingOf l own os = cond (ltb (length own) 3) (closing l (countsOf [])) (printed l (beginning own) os)
 
 -- a run that came to the end of the input and wrote all: what it wrote is the text of what it read behind the own address
-abbrev pub Listed : Listing → List ℕ → Ended → Type 0
-Listed l own r = r .whole ≡ true → ReadAndWritten (listingOf l) own (r .read) (r .written)
+abbrev pub WritesListing : Listing → List ℕ → Ended → Type 0
+WritesListing l own r = r .whole ≡ true → ReadAndWritten (listingOf l) own (r .read) (r .written)

@@ -1,10 +1,11 @@
 // A capture on standard input, listed on standard output: what the programs gateway and delivered have in common.
 ghost use mathlib.Core.Path.{_≡_};
+ghost use mathlib.Core.Bool.{false};
 ghost use Prim.Native.Nat.{_+_, _%_, _^_, _≤_};
 ghost use lib.ListN.{length};
 ghost use Rattle.receiver_state.specs.Receiver.{storeSize};
 ghost use Rattle.captures.specs.Lines.{closing, lineRoom};
-ghost use Rattle.listings.specs.Listings.{Listed};
+ghost use Rattle.listings.specs.Listings.{WritesListing};
 ghost use Rattle.listings.specs.Parts.{ListTurn};
 use captures::Gateway;
 use captures::Listing;
@@ -81,14 +82,24 @@ fn close(listing: Listing, c: Counts, read: u64, written: u64) -> Ended
     }
 }
 
+// A run that stopped before the end.
+fn stopped(read: u64, written: u64, unread: bool) -> Ended
+    ensures { λ r. ⌜ r .whole ≡ false ⌝ }
+{
+    Ended {
+        read,
+        written,
+        whole: false,
+        unread,
+    }
+}
+
 // Each datagram is answered when its last octet is read: more is read only when none of those that have come is left. A proved loop has to end,
 // and nothing says that the input does: the turns are counted down from a number that no run uses up.
-pub fn run(listing: Listing, own: &[u8]) -> Ended
-    ensures { λ r. ⌜ Listed listing (now (own .entry)) r ⌝ }
+fn list_all(listing: Listing, own: &[u8]) -> Ended
+    requires { ⌜ 3 ≤ length (now own) ⌝ }
+    ensures { λ r. ⌜ WritesListing listing (now (own .entry)) r ⌝ }
 {
-    if own.len() < ADDRESS {
-        return close(listing, counting::none(), 0, 0);
-    }
     let mut store = [0u8; STORE];
     let mut input = [0u8; INPUT];
     let mut text = [0u8; TEXT];
@@ -102,12 +113,7 @@ pub fn run(listing: Listing, own: &[u8]) -> Ended
         turns -= 1;
         let t = answer(listing, now, &mut store, &mut input, size, last, &mut text);
         if !t.written {
-            return Ended {
-                read,
-                written,
-                whole: false,
-                unread: false,
-            };
+            return stopped(read, written, false);
         }
         now = t.gateway;
         written = std::num::wrapping_add_u64(written, t.letters as u64);
@@ -126,10 +132,15 @@ pub fn run(listing: Listing, own: &[u8]) -> Ended
         last = reading.size == size;
         size = reading.size;
     }
-    Ended {
-        read,
-        written,
-        whole: false,
-        unread: true,
+    stopped(read, written, true)
+}
+
+// Reads standard input behind the own address and writes the listing. Where the address is cut short there is nothing but the last line.
+pub fn run(listing: Listing, own: &[u8]) -> Ended
+    ensures { λ r. ⌜ WritesListing listing (now (own .entry)) r ⌝ }
+{
+    if own.len() < ADDRESS {
+        return close(listing, counting::none(), 0, 0);
     }
+    list_all(listing, own)
 }

@@ -18,7 +18,8 @@ use Rattle.replays.specs.Replay.{linesGiven, reportFrom}
 use Rattle.inputs.specs.Inputs.{ReadAndWritten}
 use Rattle.inputs.specs.Parts.{Underway}
 use Rattle.inputs.proofs.Turns.{underway-start, underway-over, as-text}
-use Rattle.replay.specs.Reports.{freshOver, reportOf}
+use Rattle.replay.specs.Reports.{freshOver, reportOf, WritesReport}
+use Rattle.replay.specs.declared.Ended.{Ended}
 
 -- nothing more to come
 report-none : (s : State) → reportFrom s [] ≡ []
@@ -44,3 +45,7 @@ module _ (own : List ℕ) where
   run-ends h read written last rx store input kept u e z small =
       as-text reportFrom (freshOver own) reportOf own read written (λ os. rw (le-ltb (length own) 3 h))
       (underway-over reportFrom (freshOver own) read written last (stateOf rx store) input kept u e z [] (report-none (stateOf rx store)) written (omega arith))
+
+  pub as-told : (r : Ended) (read written : ℕ) (whole unread : Bool) → r ≡ record { read = read; written = written; whole = whole; unread = unread }
+      → (whole ≡ true → ReadAndWritten reportOf own read written) → WritesReport own r
+  as-told r read written whole unread e h = subst (WritesReport own) (sym e) h

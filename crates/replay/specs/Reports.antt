@@ -23,5 +23,5 @@ unfoldable pub reportOf : List ℕ → List ℕ → List ℕ
 reportOf own os = cond (ltb (length own) 3) [] (reportFrom (freshOver own) os)
 
 -- a run that came to the end of the input and wrote all: what it wrote is the text of what it read behind the own address
-abbrev pub Reported : List ℕ → Ended → Type 0
-Reported own r = r .whole ≡ true → ReadAndWritten reportOf own (r .read) (r .written)
+abbrev pub WritesReport : List ℕ → Ended → Type 0
+WritesReport own r = r .whole ≡ true → ReadAndWritten reportOf own (r .read) (r .written)

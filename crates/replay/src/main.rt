@@ -5,7 +5,7 @@ ghost use Prim.Native.Nat.{_≤_};
 ghost use lib.ListN.{length};
 ghost use Rattle.receiver_state.specs.Receiver.{storeSize};
 ghost use Rattle.replays.specs.Text.{reportRoom};
-ghost use Rattle.replay.specs.Reports.{Reported};
+ghost use Rattle.replay.specs.Reports.{WritesReport};
 ghost use Rattle.replay.specs.Parts.{ReplayTurn};
 use receiver_state::Receiver;
 use receiver_state::STORE;
@@ -62,19 +62,23 @@ struct Ended {
     unread: bool,
 }
 
+fn finish(read: u64, written: u64, whole: bool, unread: bool) -> Ended
+    ensures { λ r. ⌜ r ≡ record { read = read; written = written; whole = whole; unread = unread } ⌝ }
+{
+    Ended {
+        read,
+        written,
+        whole,
+        unread,
+    }
+}
+
 // Each record is answered when its last octet is read: more is read only when none of those that have come is left. A proved loop has to end,
 // and nothing says that the input does: the turns are counted down from a number that no run uses up.
-fn run(own: &[u8]) -> Ended
-    ensures { λ r. ⌜ Reported (now (own .entry)) r ⌝ }
+fn report_all(own: &[u8]) -> Ended
+    requires { ⌜ 3 ≤ length (now own) ⌝ }
+    ensures { λ r. ⌜ WritesReport (now (own .entry)) r ⌝ }
 {
-    if own.len() < ADDRESS {
-        return Ended {
-            read: 0,
-            written: 0,
-            whole: true,
-            unread: false,
-        };
-    }
     let mut store = [0u8; STORE];
     let mut input = [0u8; INPUT];
     let mut text = [0u8; TEXT];
@@ -88,12 +92,7 @@ fn run(own: &[u8]) -> Ended
         turns -= 1;
         let t = answer(now, &mut store, &mut input, size, last, &mut text);
         if !t.written {
-            return Ended {
-                read,
-                written,
-                whole: false,
-                unread: false,
-            };
+            return finish(read, written, false, false);
         }
         now = t.receiver;
         written = std::num::wrapping_add_u64(written, t.letters as u64);
@@ -102,12 +101,7 @@ fn run(own: &[u8]) -> Ended
             continue;
         }
         if last {
-            return Ended {
-                read,
-                written,
-                whole: true,
-                unread: false,
-            };
+            return finish(read, written, true, false);
         }
         let reading = inputs::read_behind(&mut input, size);
         if reading.failed {
@@ -117,12 +111,17 @@ fn run(own: &[u8]) -> Ended
         last = reading.size == size;
         size = reading.size;
     }
-    Ended {
-        read,
-        written,
-        whole: false,
-        unread: true,
+    finish(read, written, false, true)
+}
+
+// Reads standard input behind the own address and writes the report. Where the address is cut short there is none.
+fn run(own: &[u8]) -> Ended
+    ensures { λ r. ⌜ WritesReport (now (own .entry)) r ⌝ }
+{
+    if own.len() < ADDRESS {
+        return finish(0, 0, true, false);
     }
+    report_all(own)
 }
 
 fn main() {
