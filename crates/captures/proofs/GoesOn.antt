@@ -3,7 +3,7 @@
 use mathlib.Core.Path.{_≡_, refl, sym, ap, ap₂, _∙_}
 use mathlib.Core.Bool.{Bool, true, false, cond}
 use mathlib.Core.List.{List, [], _∷_, _++_, append-nil, append-assoc}
-use Prim.Native.Nat.{ℕ, zero, suc, _+_, _*_, _-_, _/_, _≤_, _<_, min}
+use Prim.Native.Nat.{ℕ, zero, suc, _+_, _*_, _-_, _≤_, _<_, min}
 use native.Mathlib.Nat.{zero-add, suc-add}
 use native.Mathlib.Decide.{decLt}
 use native.Mathlib.Omega.{arith}
@@ -11,7 +11,7 @@ use lib.ListN.{length, take, drop, length-append, length-drop, drop-of-length-le
 use lib.Seq.{take-append-le, drop-append-le, drop-drop}
 use Rattle.reception.specs.declared.Answer.{Answer}
 use Rattle.counting.specs.declared.Counts.{Counts}
-use Rattle.counting.specs.Counts.{countsOf, counted, countedAll}
+use Rattle.counting.specs.Counts.{countsOf, countedAll}
 use Rattle.counting.proofs.Counting.{counts-on}
 use Rattle.captures.specs.declared.Listing.{Listing}
 use Rattle.captures.specs.Lines.{closing}

@@ -1,12 +1,12 @@
 -- Octets moved to the front of the memory that they stand in, one after the other; and a part read behind the first ones.
 -- Assumes nothing.
-use mathlib.Core.Path.{_≡_, refl, sym, ap, subst, _∙_}
+use mathlib.Core.Path.{_≡_, sym, ap, subst, _∙_}
 use mathlib.Core.List.{List, _++_}
 use Prim.Native.Nat.{ℕ, _+_, _-_, _≤_, _<_}
 use native.Mathlib.Nat.{zero-add}
 use native.Mathlib.Omega.{arith}
 use lib.ListN.{length, getD, take, drop, set, length-drop, drop-of-length-le}
-use lib.Seq.{take-at, take-append-le, length-take-le, getD-drop, paste, drop-paste}
+use lib.Seq.{take-at, take-append-le, length-take-le, getD-drop, drop-paste}
 use Rattle.foundation.specs.Octets.{put}
 use Rattle.foundation.proofs.Copying.{Copied, copied-start, copied-more, copied-done, copied-length, put-fits, length-put}
 use Rattle.texts.proofs.Writing.{wrote-none, wrote-front}

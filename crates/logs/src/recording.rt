@@ -12,7 +12,7 @@ ghost use Rattle.stored.specs.Stored.{storedBlock};
 ghost use Rattle.history.specs.History.{header, block};
 ghost use Rattle.history.specs.Run.{event};
 ghost use Rattle.logs.specs.Claims.{RecordRefused};
-ghost use Rattle.logs.specs.Log.{lineSize, answer, restarted, act, recordOf, lineOctets, lineIn, lineOf, restartOf, afterRecord, stateOf, recorded, recordStore, recordLine};
+ghost use Rattle.logs.specs.Log.{lineSize, answer, act, recordOf, lineOctets, lineIn, lineOf, restartOf, afterRecord, stateOf, recorded, recordStore, recordLine};
 use messages::response::ResponseOctets;
 use receiver::event::Answer;
 use receiver_state::Receiver;

@@ -9,7 +9,6 @@ use native.Mathlib.Nat.{zero-add}
 use native.Mathlib.Omega.{arith}
 use lib.ListN.{length, take, drop}
 use borrow.Author.Tests.{eq-eqb, ne-eqb, le-leb, lt-leb}
-use Rattle.foundation.specs.Octets.{put}
 use Rattle.foundation.specs.Order.{firstFailed}
 use Rattle.texts.specs.Texts.{Wrote}
 use Rattle.texts.proofs.Writing.{wrote-front}
@@ -25,7 +24,7 @@ use Rattle.replays.specs.Claims.{ReplayClaims}
 use Rattle.replays.specs.declared.Replayed.{Replayed}
 use Rattle.replays.proofs.Records.{splits, some-taken}
 use Rattle.replays.proofs.Rule.{given-all, as-the-rule}
-use Rattle.replays.proofs.Runs.{textOf, text-cons, left-cons}
+use Rattle.replays.proofs.Runs.{textOf}
 
 -- ---- the whole text
 

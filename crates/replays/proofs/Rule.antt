@@ -22,7 +22,7 @@ use Rattle.history.proofs.Follows.{Follows, fresh-follows, good}
 use Rattle.history.proofs.Restart.{restart-follows}
 use Rattle.history.proofs.Claims as history
 use Rattle.logs.specs.Log.{Record, act, none, recordOf, Line, answer, restarted, lineOf, afterRecord}
-use Rattle.replays.specs.Log.{recordEnd, isWhole, firstRecord, records, actionsOf}
+use Rattle.replays.specs.Log.{recordEnd, isWhole, records, actionsOf}
 use Rattle.replays.specs.Rule.{linesFrom}
 use Rattle.replays.specs.Replay.{lineGiven, leftByRecord, linesGiven, leftByRecords}
 use Rattle.replays.specs.Claims.{LogClaims, AsTheRule}

@@ -5,7 +5,7 @@ use mathlib.Core.Bool.{Bool, true, false, cond}
 use mathlib.Core.Logic.{_≢_}
 use mathlib.Core.List.{List, [], _∷_, _++_, append-nil, append-assoc}
 use Prim.Native.Nat.{ℕ, suc, _+_, _*_, _-_, _≤_, _<_}
-use native.Mathlib.Nat.{add-zero, zero-add}
+use native.Mathlib.Nat.{zero-add}
 use native.Mathlib.Omega.{arith}
 use lib.ListN.{length, take, drop, length-append}
 use borrow.Author.Tests.{eq-eqb}
@@ -17,8 +17,7 @@ use Rattle.receiver_state.specs.declared.Receiver.{Receiver}
 use Rattle.texts.specs.Texts.{Wrote, AtMost}
 use Rattle.texts.proofs.Writing.{wrote-none, behind}
 use Rattle.history.specs.Run.{State}
-use Rattle.transactions.specs.Answers.{refused}
-use Rattle.logs.specs.Log.{Record, recordOf, Line, answer, lineOf, afterRecord, lineSize, lineIn, recordNumber, stateOf, recorded, recordStore, recordLine}
+use Rattle.logs.specs.Log.{Record, recordOf, lineOf, afterRecord, lineSize, lineIn, recordNumber, stateOf, recorded, recordStore, recordLine}
 use Rattle.logs.specs.declared.recording.Recorded.{Recorded}
 use Rattle.replays.specs.Log.{records, octetsTaken}
 use Rattle.replays.specs.Text.{lineText, reportText, reportRoom}
@@ -84,11 +83,11 @@ text-none : (s : State) → textOf s [] ≡ []
 unfolding reportText linesGiven
 text-none s = refl
 
-pub text-cons : (s : State) (r : Record) (rs : List Record) → textOf s (r ∷ rs) ≡ lineText (lineGiven s r) ++ textOf (leftByRecord s r) rs
+text-cons : (s : State) (r : Record) (rs : List Record) → textOf s (r ∷ rs) ≡ lineText (lineGiven s r) ++ textOf (leftByRecord s r) rs
 unfolding reportText linesGiven
 text-cons s r rs = refl
 
-pub left-cons : (s : State) (r : Record) (rs : List Record) → leftByRecords s (r ∷ rs) ≡ leftByRecords (leftByRecord s r) rs
+left-cons : (s : State) (r : Record) (rs : List Record) → leftByRecords s (r ∷ rs) ≡ leftByRecords (leftByRecord s r) rs
 unfolding leftByRecords
 left-cons s r rs = refl
 

@@ -8,7 +8,7 @@ use lib.Dec.{eqb}
 use lib.ListN.{length, getD, take, drop}
 use Rattle.texts.specs.Texts.{decimal, octetsText, blank, lineFeed, parts}
 use Rattle.stored.specs.Stored.{storedBlock}
-use Rattle.transactions.specs.Answers.{refused, opened, repeat, stored, bad}
+use Rattle.transactions.specs.Answers.{opened, repeat, stored, bad}
 use Rattle.logs.specs.Log.{recordOf, answer}
 use Rattle.replays.specs.Log.{records, octetsTaken}
 use Rattle.replays.specs.Text.{lineText}

@@ -2,7 +2,7 @@
 ghost use mathlib.Core.Path.{_≡_};
 ghost use mathlib.Core.Bool.{true, false, cond};
 ghost use mathlib.Core.List.{[], _∷_};
-ghost use Prim.Native.Nat.{_+_, _*_, _/_, _≤_, min};
+ghost use Prim.Native.Nat.{_+_, _*_, _/_, _≤_};
 ghost use lib.Dec.{ltb};
 ghost use lib.ListN.{length};
 ghost use Rattle.addresses.specs.Octets.{addressAt};
@@ -178,7 +178,7 @@ fn cut_at(octets: &[u8], at: usize, last: bool) -> Cut
 }
 
 // The receiver after a record, and where its line ends.
-pub struct Told {
+pub struct LineEnd {
     pub receiver: Receiver,
     pub end: usize,
 }
@@ -191,7 +191,7 @@ fn answer(
     octets: &[u8],
     text: &mut [u8],
     at: usize,
-) -> Told
+) -> LineEnd
     requires { ⌜ (at + reportRoom ≤ length (now text)) × (length (now store) ≡ storeSize) ⌝ }
     ensures { λ r. ⌜ (stateOf (r .receiver) (now (store .exit)) ≡ leftByRecord (stateOf rx (now (store .entry))) (recordOf kind (now (octets .entry))))
         × AtMost reportRoom (lineText (lineGiven (stateOf rx (now (store .entry))) (recordOf kind (now (octets .entry))))) (now (text .entry)) at (r .end) (now (text .exit)) ⌝ }
@@ -201,13 +201,13 @@ fn answer(
     let next = recorded.receiver;
     if recorded.number != 0 {
         let end = put_refusal(text, at, 1);
-        return Told {
+        return LineEnd {
             receiver: next,
             end,
         };
     }
     let end = put_line(text, at, &line);
-    Told {
+    LineEnd {
         receiver: next,
         end,
     }
