@@ -6,3 +6,4 @@ pub mod Order
 pub mod Filling
 pub mod Replaced
 pub mod Copying
+pub mod OctetLists

@@ -11,6 +11,7 @@ use lib.Seq.{length-take-le, take-take}
 use lib.Dec.{eqb}
 use borrow.Author.Tests.{eqb-true}
 use Rattle.foundation.proofs.Tests.{never}
+use Rattle.foundation.proofs.OctetLists.{Octets, octets-append, octets-take, octets-drop, octets-zeros}
 use Rattle.inputs.specs.Inputs.{ReadBehind, ReadAndWritten}
 use Rattle.inputs.specs.Parts.{Continues, Answers, Underway}
 use Rattle.inputs.specs.declared.Reading.{Reading}
@@ -21,7 +22,7 @@ length-none (x ∷ l) h = absurd (not-suc-le-zero h)
 
 module _ {S : Type 0} (text : S → List ℕ → List ℕ) (first : S) where
   pub underway-start : Underway text first 0 0 false first []
-  underway-start = record { read = []; written = []; as-many = refl; so-long = refl; goes-on = λ more e. refl }
+  underway-start = record { read = []; written = []; octets-read = octets-zeros 0; as-many = refl; so-long = refl; goes-on = λ more e. refl }
 
   module _ (octets letters : ℕ) (ended : Bool) (now : S) (rest : List ℕ) (u : Underway text first octets letters ended now rest) where
     -- octets are answered
@@ -30,6 +31,7 @@ module _ {S : Type 0} (text : S → List ℕ → List ℕ) (first : S) where
     underway-answered more kept now′ rest′ a letters′ e = record {
       read = u .read;
       written = u .written ++ a .line;
+      octets-read = u .octets-read;
       as-many = u .as-many;
       so-long = omega (arith, u .so-long, a .long, length-append (u .written) (a .line), e);
       goes-on = λ m none. u .goes-on m none ∙ ap (λ (x : List ℕ). u .written ++ x) (a .goes-on m none)
@@ -42,6 +44,7 @@ module _ {S : Type 0} (text : S → List ℕ → List ℕ) (first : S) where
     underway-ends e last l letters′ el = record {
       read = u .read;
       written = u .written ++ last;
+      octets-read = u .octets-read;
       as-many = u .as-many;
       so-long = omega (arith, u .so-long, length-append (u .written) last, el);
       whole = ap (text first) (sym (append-nil (u .read))) ∙ u .goes-on [] (λ _. refl) ∙ ap (λ (x : List ℕ). u .written ++ text now x) (append-nil rest)
@@ -50,11 +53,12 @@ module _ {S : Type 0} (text : S → List ℕ → List ℕ) (first : S) where
 
   -- octets are read
   module _ (octets letters : ℕ) (now : S) (rest : List ℕ) (u : Underway text first octets letters false now rest) where
-    underway-more : (new : List ℕ) (ended : Bool) → (ended ≡ true → new ≡ []) → (octets′ : ℕ) → octets′ ≡ (octets + length new) % 2 ^ 64
+    underway-more : (new : List ℕ) → Octets new → (ended : Bool) → (ended ≡ true → new ≡ []) → (octets′ : ℕ) → octets′ ≡ (octets + length new) % 2 ^ 64
         → Underway text first octets′ letters ended now (rest ++ new)
-    underway-more new ended none octets′ e = record {
+    underway-more new small ended none octets′ e = record {
       read = u .read ++ new;
       written = u .written;
+      octets-read = octets-append (u .read) new (u .octets-read) small;
       as-many = omega (arith, u .as-many, length-append (u .read) new, e);
       so-long = u .so-long;
       goes-on = λ more _. ap (text first) (append-assoc (u .read) new more) ∙ u .goes-on (new ++ more) (λ f. never f refl)
@@ -96,7 +100,7 @@ module _ (input : List ℕ) (size : ℕ) (r : Reading) (input′ : List ℕ) (b 
         subst (λ (n : ℕ). Underway text first octets letters false now (take n input)) k
         (subst (λ (t : Bool). Underway text first octets letters t now (take kept input)) e u) in
         subst (Underway text first octets′ letters ended′ now) behind-rest
-        (underway-more text first octets letters now (take size input) before new ended′
+        (underway-more text first octets letters now (take size input) before new (octets-drop size (take (r .size) input′) (octets-take (r .size) input′ (b .octets))) ended′
         (λ t. length-none new (omega (arith, length-new, eqb-true (r .size) size (sym ee ∙ t)))) octets′ (eo ∙ ap (λ (n : ℕ). (octets + n) % 2 ^ 64) (sym length-new)))
 
 -- ---- what a turn keeps
@@ -124,11 +128,12 @@ underway-over text first octets letters ended now input kept u e z last l letter
 
 -- the same text by another definition
 pub as-text : {S T : Type 0} (text : S → List ℕ → List ℕ) (first : S) (text′ : T → List ℕ → List ℕ) (first′ : T) (octets letters : ℕ)
-    → ((os : List ℕ) → text′ first′ os ≡ text first os) → ReadAndWritten text first octets letters → ReadAndWritten text′ first′ octets letters
+    → ((os : List ℕ) → Octets os → text′ first′ os ≡ text first os) → ReadAndWritten text first octets letters → ReadAndWritten text′ first′ octets letters
 as-text text first text′ first′ octets letters e w = record {
   read = w .read;
   written = w .written;
+  octets-read = w .octets-read;
   as-many = w .as-many;
   so-long = w .so-long;
-  whole = e (w .read) ∙ w .whole;
+  whole = e (w .read) (w .octets-read) ∙ w .whole;
 }

@@ -2,8 +2,8 @@
 -- Assumes nothing.
 use mathlib.Core.Path.{_≡_}
 use mathlib.Core.List.{List}
-use Prim.Native.Nat.{ℕ, _%_, _^_, _≤_}
-use lib.ListN.{length, take}
+use Prim.Native.Nat.{ℕ, _%_, _^_, _≤_, _<_}
+use lib.ListN.{length, getD, take}
 use Rattle.inputs.specs.declared.Reading.{Reading}
 
 -- the first octets stay, and the others are behind them and inside the memory
@@ -11,12 +11,14 @@ pub record ReadBehind (input : List ℕ) (first : ℕ) (r : Reading) (input′ :
   pub kept : take first input′ ≡ take first input
   pub behind : first ≤ r .size
   pub inside : first ≤ length input → r .size ≤ length input
+  pub octets : (i : ℕ) → getD input′ i 0 < 256
 
 -- a program that gives a text for what it reads, from a state on: octets were read, as many as are counted, octets of text were written, as many
 -- as are counted (both modulo 2^64), and what was written is the text of what was read
 pub record ReadAndWritten {S : Type 0} (text : S → List ℕ → List ℕ) (first : S) (octets letters : ℕ) : Type 0 where
   pub read : List ℕ
   pub written : List ℕ
+  pub octets-read : (i : ℕ) → getD read i 0 < 256
   pub as-many : length read % 2 ^ 64 ≡ octets
   pub so-long : length written % 2 ^ 64 ≡ letters
   pub whole : text first read ≡ written

@@ -3,8 +3,8 @@
 use mathlib.Core.Path.{_≡_}
 use mathlib.Core.Bool.{Bool, true}
 use mathlib.Core.List.{List, [], _++_}
-use Prim.Native.Nat.{ℕ, _%_, _^_, _≤_}
-use lib.ListN.{length}
+use Prim.Native.Nat.{ℕ, _%_, _^_, _≤_, _<_}
+use lib.ListN.{length, getD}
 
 -- whatever follows, or nothing where nothing can: the text of what was read and follows is what was written, and then the text, from now on, of
 -- the rest and of what follows
@@ -24,6 +24,7 @@ pub record Answers {S : Type 0} (text : S → List ℕ → List ℕ) (first : S)
 pub record Underway {S : Type 0} (text : S → List ℕ → List ℕ) (first : S) (octets letters : ℕ) (ended : Bool) (now : S) (rest : List ℕ) : Type 0 where
   pub read : List ℕ
   pub written : List ℕ
+  pub octets-read : (i : ℕ) → getD read i 0 < 256
   pub as-many : length read % 2 ^ 64 ≡ octets
   pub so-long : length written % 2 ^ 64 ≡ letters
   pub goes-on : Continues text first read ended written now rest

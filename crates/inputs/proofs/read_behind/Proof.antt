@@ -8,7 +8,7 @@ use Rattle.inputs.proofs.read_behind.Statement.{statement}
 use Rattle.inputs.proofs.read_behind.Tie as tie
 
 returns : tie.Need-returns
-returns c = search needs
+returns c = record { kept = refl; behind = omega arith; inside = λ h. h; octets = λ j. c .before .slice-known .given j .fits }
 
 sub-read : tie.Need-sub-read
 sub-read c = search needs
@@ -28,7 +28,7 @@ same-length c = search needs
 returns-2 : tie.Need-returns-2
 returns-2 c =
     let a = c .before .before .before .before .before .before .before .args in
-    record { kept = first-kept (a .input .now) _ (a .first) (omega arith); behind = omega arith; inside = λ h. h }
+    record { kept = first-kept (a .input .now) _ (a .first) (omega arith); behind = omega arith; inside = λ h. h; octets = λ j. c .before .slice-known2 .given j .fits }
 
 sub-count : tie.Need-sub-count
 sub-count c = search needs
@@ -51,7 +51,7 @@ same-length-2 c = search needs
 returns-3 : tie.Need-returns-3
 returns-3 c =
     let a = c .before .before .before .before .before .before .before .before .before .before .args in
-    record { kept = first-kept (a .input .now) _ (a .first) (omega arith); behind = omega arith; inside = λ h. search needs }
+    record { kept = first-kept (a .input .now) _ (a .first) (omega arith); behind = omega arith; inside = λ h. search needs; octets = λ j. c .before .before .before .before .slice-known2 .given j .fits }
 
 pub read-behind-spec : {M : Type 1} → statement M
 read-behind-spec =

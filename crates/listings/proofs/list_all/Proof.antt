@@ -75,7 +75,7 @@ returns-2 c =
     let u = underway-answered (printed (a .listing)) (beginning (a .own .now)) (l .read) (l .written) (l .last) (running (l .now) (l .store)) (take (l .size) (l .input)) (l .inv .4) (w .result .letters) (w .result .kept) _ _ (w .ensures) _ (c .before .before .before .before .wrapping-add-u64 .ensures) in
     let inside : l .size ≤ length (l .input) = omega (arith, l .inv .1, l .inv .3) in
     let k = c .close in
-    run-ends (a .listing) (a .own .now) (k .result) (l .read) _ (k .ensures .0) (c .before .before .before .before .before .before .before .before .before .before .before .before .before .before .before .before .before .before .before .pre) (l .last) (w .result .gateway) _ _ (w .result .kept) u (c .before .if3 .taken)
+    run-ends (a .listing) (a .own .now) (k .result) (l .read) _ (k .ensures .0) (λ j. c .before .before .before .before .before .before .before .before .before .before .before .before .before .before .before .before .before .before .shared-slice-known .given j .fits) (c .before .before .before .before .before .before .before .before .before .before .before .before .before .before .before .before .before .before .before .pre) (l .last) (w .result .gateway) _ _ (w .result .kept) u (c .before .if3 .taken)
     (keeps-none (printed (a .listing)) (running (l .now) (l .store)) (l .input) (l .size) (l .last) (w .result .letters) (w .result .kept) _ _ (w .ensures) inside (c .before .if3 .taken) (omega arith)) (k .ensures .1)
 
 slice-aggregate-read-behind : tie.Need-slice-aggregate-read-behind Inv-loop μ-loop

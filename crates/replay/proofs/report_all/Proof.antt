@@ -10,7 +10,7 @@ use Rattle.foundation.proofs.Tests.{never}
 use Rattle.logs.specs.Log.{stateOf}
 use Rattle.replays.specs.Replay.{reportFrom}
 use Rattle.inputs.proofs.Turns.{underway-answered, underway-read, keeps-few, keeps-all, keeps-none}
-use Rattle.replay.specs.Reports.{freshOver}
+use Rattle.replay.specs.Parts.{freshOver}
 use Rattle.replay.proofs.Turning.{Run, run-start, run-ends, as-told}
 use Rattle.replay.proofs.report_all.Statement.{statement}
 use Rattle.replay.proofs.report_all.Tie as tie
@@ -78,7 +78,7 @@ returns-2 c =
     let k = c .before .before .before .before .wrapping-add-u64 in
     let small : k .result < 2 ^ 64 = omega (arith, k .ensures) in
     as-told (a .own .now) (c .finish2 .result) _ _ _ _ (c .finish2 .ensures)
-    (λ _. run-ends (a .own .now) (c .before .before .before .before .before .before .before .before .before .before .before .before .before .before .before .before .before .before .before .pre) (l .read) (k .result) (l .last) (w .result .receiver) _ _ (w .result .kept) u (c .before .if3 .taken)
+    (λ _. run-ends (a .own .now) (λ j. c .before .before .before .before .before .before .before .before .before .before .before .before .before .before .before .before .before .before .shared-slice-known .given j .fits) (c .before .before .before .before .before .before .before .before .before .before .before .before .before .before .before .before .before .before .before .pre) (l .read) (k .result) (l .last) (w .result .receiver) _ _ (w .result .kept) u (c .before .if3 .taken)
     (keeps-none reportFrom (stateOf (l .now) (l .store)) (l .input) (l .size) (l .last) (w .result .letters) (w .result .kept) _ _ (w .ensures) inside (c .before .if3 .taken) (omega arith)) small)
 
 slice-aggregate-read-behind : tie.Need-slice-aggregate-read-behind Inv-loop μ-loop
