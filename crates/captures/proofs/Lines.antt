@@ -6,7 +6,8 @@ use Prim.Native.Nat.{ℕ, _+_, _^_, _≤_, _<_}
 use native.Mathlib.Omega.{arith}
 use lib.ListN.{length}
 use Rattle.foundation.proofs.Copying.{length-put}
-use Rattle.texts.specs.Texts.{decimal, octetsText, blank, lineFeed, parts, Wrote, AtMost}
+use Rattle.texts.specs.Texts.{decimal, octetsText, blank, lineFeed, parts}
+use Rattle.texts.specs.Parts.{Wrote, AtMost}
 use Rattle.texts.proofs.Decimals.{short}
 use Rattle.texts.proofs.Writing.{Put, wrote-none, Chain, more, chained, as-put, length-parts, length-octets}
 use Rattle.transactions.specs.declared.header.Transaction.{Transaction}

@@ -13,7 +13,7 @@ use Rattle.foundation.specs.Order.{firstFailed}
 use Rattle.foundation.specs.Octets.{put}
 use Rattle.receiver_state.specs.Receiver.{storeSize}
 use Rattle.counting.specs.Counts.{countsOf}
-use Rattle.texts.specs.Texts.{Wrote}
+use Rattle.texts.specs.Parts.{Wrote}
 use Rattle.texts.proofs.Writing.{wrote-front}
 use Rattle.captures.specs.declared.Gateway.{Gateway}
 use Rattle.captures.specs.declared.Listed.{Listed}

@@ -9,7 +9,7 @@ use lib.ListN.{length, take, drop, length-append, length-drop}
 use lib.Seq.{drop-drop}
 use Rattle.foundation.proofs.Copying.{length-put, take-shorter}
 use Rattle.receiver_state.specs.Receiver.{storeSize}
-use Rattle.texts.specs.Texts.{Wrote, AtMost}
+use Rattle.texts.specs.Parts.{Wrote, AtMost}
 use Rattle.texts.proofs.Writing.{wrote-none, behind}
 use Rattle.captures.specs.declared.Gateway.{Gateway}
 use Rattle.captures.specs.declared.Listing.{Listing}

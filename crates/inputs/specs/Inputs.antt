@@ -13,8 +13,8 @@ pub record ReadBehind (input : List ℕ) (first : ℕ) (r : Reading) (input′ :
   pub inside : first ≤ length input → r .size ≤ length input
   pub octets : (i : ℕ) → getD input′ i 0 < 256
 
--- a program that gives a text for what it reads, from a state on: octets were read, as many as are counted, octets of text were written, as many
--- as are counted (both modulo 2^64), and what was written is the text of what was read
+-- a program that makes a text of what it reads, from a state on, and counts both (modulo 2^64): there are octets, as many as it counted as read,
+-- and a text, of as many octets as it counted as written, and the text is that of the octets
 pub record ReadAndWritten {S : Type 0} (text : S → List ℕ → List ℕ) (first : S) (octets letters : ℕ) : Type 0 where
   pub read : List ℕ
   pub written : List ℕ

@@ -29,6 +29,6 @@ listingOf l own os =
     cond (ltb (length own) 3) (closing l (countsOf []))
     (listed l 0 (outcomesByRule (addressAt own 0) nothing ds) ++ closing l (countsOf (answersGiven (beginning own) ds)))
 
--- a run that came to the end of the input and wrote all: what it wrote is the text of what it read behind the own address
+-- a run that says that it came to the end of the input and wrote all: the text is that of what was read behind the own address, as counted
 abbrev pub WritesListing : Listing → List ℕ → Ended → Type 0
 WritesListing l own r = r .whole ≡ true → ReadAndWritten (listingOf l) own (r .read) (r .written)

@@ -18,6 +18,6 @@ use Rattle.replay.specs.declared.Ended.{Ended}
 unfoldable pub reportOf : List ℕ → List ℕ → List ℕ
 reportOf own os = cond (ltb (length own) 3) [] (reportText (linesFrom (addressAt own 0) nothing (recordsOf os)))
 
--- a run that came to the end of the input and wrote all: what it wrote is the text of what it read behind the own address
+-- a run that says that it came to the end of the input and wrote all: the text is that of what was read behind the own address, as counted
 abbrev pub WritesReport : List ℕ → Ended → Type 0
 WritesReport own r = r .whole ≡ true → ReadAndWritten reportOf own (r .read) (r .written)

@@ -10,7 +10,7 @@ use native.Mathlib.Omega.{arith}
 use lib.ListN.{length, take, drop}
 use borrow.Author.Tests.{eq-eqb, ne-eqb, le-leb, lt-leb}
 use Rattle.foundation.specs.Order.{firstFailed}
-use Rattle.texts.specs.Texts.{Wrote}
+use Rattle.texts.specs.Parts.{Wrote}
 use Rattle.texts.proofs.Writing.{wrote-front}
 use Rattle.receiver_state.specs.Receiver.{storeSize}
 use Rattle.receiver_state.specs.declared.Receiver.{Receiver}

@@ -14,7 +14,7 @@ use Rattle.foundation.proofs.Tests.{either}
 use Rattle.foundation.specs.Order.{firstFailed}
 use Rattle.receiver_state.specs.Receiver.{storeSize, receiverGood}
 use Rattle.receiver_state.specs.declared.Receiver.{Receiver}
-use Rattle.texts.specs.Texts.{Wrote, AtMost}
+use Rattle.texts.specs.Parts.{Wrote, AtMost}
 use Rattle.texts.proofs.Writing.{wrote-none, behind}
 use Rattle.history.specs.Run.{State}
 use Rattle.logs.specs.Log.{Record, recordOf, lineOf, afterRecord, lineSize, lineIn, recordNumber, stateOf, recorded, recordStore, recordLine}

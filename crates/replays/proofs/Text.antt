@@ -11,7 +11,8 @@ use lib.Seq.{take-all, take-at, drop-at}
 use borrow.Author.Tests.{ne-eqb}
 use Rattle.foundation.proofs.Tests.{either}
 use Rattle.foundation.proofs.Copying.{take-shorter}
-use Rattle.texts.specs.Texts.{decimal, octetsText, blank, lineFeed, parts, AtMost}
+use Rattle.texts.specs.Texts.{decimal, octetsText, blank, lineFeed, parts}
+use Rattle.texts.specs.Parts.{AtMost}
 use Rattle.texts.proofs.Decimals.{short}
 use Rattle.texts.proofs.Writing.{Put, wrote, Chain, total, chained, length-parts, length-octets}
 use Rattle.packets.proofs.HeaderBack.{written-length}

@@ -9,7 +9,7 @@ ghost use Rattle.addresses.specs.Octets.{addressAt};
 ghost use Rattle.foundation.specs.Order.{all};
 ghost use Rattle.receiver_state.specs.Receiver.{storeSize, freshFor};
 ghost use Rattle.stored.specs.Stored.{storedBlock};
-ghost use Rattle.texts.specs.Texts.{Wrote, AtMost};
+ghost use Rattle.texts.specs.Parts.{Wrote, AtMost};
 ghost use Rattle.logs.specs.Log.{recordOf, lineSize, stateOf};
 ghost use Rattle.replays.specs.Log.{records, octetsTaken};
 ghost use Rattle.replays.specs.Text.{lineText, reportText, reportRoom};

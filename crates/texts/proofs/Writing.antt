@@ -15,7 +15,8 @@ use Rattle.io.specs.Digits.{digits, glyph}
 use Rattle.foundation.specs.Octets.{over, put}
 use Rattle.foundation.proofs.Copying.{Grown, grown, put-fits, put-not, length-put}
 use Rattle.foundation.proofs.Tests.{either}
-use Rattle.texts.specs.Texts.{hexadecimal, octetsText, parts, endAt, Wrote}
+use Rattle.texts.specs.Texts.{hexadecimal, octetsText, parts, endAt}
+use Rattle.texts.specs.Parts.{Wrote}
 
 -- ---- where a text ends
 

@@ -1,13 +1,11 @@
 -- Text in octets (ASCII): numbers in decimal, octets in hexadecimal, and where a text ends that is written at a place.
 -- Assumes nothing.
-use mathlib.Core.Path.{_≡_}
 use mathlib.Core.Bool.{cond}
 use mathlib.Core.List.{List, [], _∷_, _++_}
-use Prim.Native.Nat.{ℕ, zero, suc, _+_, _/_, _≤_}
+use Prim.Native.Nat.{ℕ, zero, suc, _+_, _/_}
 use lib.Dec.{eqb, leb, ltb}
 use lib.ListN.{length}
 use Rattle.io.specs.Digits.{digits}
-use Rattle.foundation.specs.Octets.{put}
 
 -- how many digits a number has in decimal, at most k + 1
 unfoldable pub places : ℕ → ℕ → ℕ
@@ -42,11 +40,3 @@ parts (p ∷ ps) = p ++ parts ps
 -- where a text ends that is written at a place; where it begins if there is no room
 unfoldable pub endAt : List ℕ → ℕ → List ℕ → ℕ
 endAt text at os = cond (leb (at + length os) (length text)) (at + length os) at
-
--- what is written where there is room: a text stands in d at a place, up to r
-abbrev pub Wrote : List ℕ → List ℕ → ℕ → ℕ → List ℕ → Type 0
-Wrote os d at r m = (r ≡ at + length os) × (m ≡ put d at os)
-
--- and that it takes no more than k octets
-abbrev pub AtMost : ℕ → List ℕ → List ℕ → ℕ → ℕ → List ℕ → Type 0
-AtMost k os d at r m = Wrote os d at r m × (r ≤ at + k)

@@ -7,7 +7,7 @@ use Prim.Native.Nat.{ℕ, min}
 use lib.ListN.{take, length}
 use lib.Seq.{length-take-le}
 use Rattle.foundation.proofs.Copying.{take-shorter}
-use Rattle.texts.specs.Texts.{AtMost}
+use Rattle.texts.specs.Parts.{AtMost}
 use Rattle.receiver.specs.Events.{said}
 use Rattle.captures.specs.Lines.{deliveryLine, messageLine}
 use Rattle.captures.proofs.Lines.{no-line, confirmed-line}
