@@ -4,36 +4,88 @@ use mathlib.Core.Path.{_≡_, refl, sym, ap, ap₂, _∙_}
 use mathlib.Core.Bool.{true}
 use mathlib.Core.List.{List, _++_}
 use Prim.Native.Nat.{ℕ, _+_, _*_, _-_, _/_, _%_, _^_, _≤_, _<_}
+use native.Mathlib.Nat.{add-zero, mul-one}
 use native.Mathlib.Omega.{arith}
 use borrow.Author.Tests.{eq-eqb}
 use lib.Pow.{shr-shr}
 use lib.Bits.{bitXor}
 use lib.Dec.{eqb}
 use lib.ListN.{length, take, getD, length-append}
-use Rattle.foundation.specs.Bits.{zeros, octetBit}
+use Rattle.foundation.specs.Bits.{Bits, zeros, octetBit, valueOf}
 use Rattle.polynomials.specs.Remainder.{divide, check}
 use Rattle.foundation.proofs.Runs.{octetBit-bits}
-use Rattle.polynomials.proofs.Check.{check-lt}
+use Rattle.foundation.proofs.OctetLists.{Octets}
+use Rattle.foundation.proofs.OctetWords.{joined, value-joined}
+use Rattle.polynomials.proofs.Division.{remainder-short}
+use Rattle.polynomials.proofs.Check.{check-is, check-none, check-lt, check-more}
 use Rattle.polynomials.proofs.Register.{octet-more}
 use Rattle.checks.specs.Checks.{messageGenerator, exchanged, messageCheck, lowestFirst, lowestNumber, messageGood}
-use Rattle.checks.proofs.Pairs.{partner, getD-exchanged}
+use Rattle.checks.specs.Parts.{messageSoFar}
+use Rattle.checks.proofs.Pairs.{exchanged-pair, exchanged-last, octets-exchanged}
 use Rattle.checks.proofs.Ends.{enough, front, from-end}
 
-module _ (os : List ℕ) where
-  -- the check of the first i octets of the exchanged ones
-  abbrev pub soFar : ℕ → ℕ
-  soFar i = check 32 messageGenerator (octetBit (exchanged os)) (8 * i)
+module _ (os : List ℕ) (octet : Octets os) where
+  u : ℕ → ℕ
+  u = octetBit (exchanged os)
 
-  -- the register takes in octet j, which stands at i once pairs are exchanged
-  pub soFar-more : (i j : ℕ) → i < length os → j ≡ partner (length os) i → getD os j 0 < 256
-      → divide 32 messageGenerator (bitXor (soFar i) (getD os j 0 * 2 ^ 24)) zeros 8 ≡ soFar (i + 1)
-  soFar-more i j h e l =
-      ap (λ (o : ℕ). divide 32 messageGenerator (bitXor (soFar i) (o * 2 ^ 24)) zeros 8) same
-      ∙ octet-more 32 messageGenerator (omega arith) (exchanged os) i (omega (arith, same))
+  u-bits : Bits u
+  unfolding u
+  u-bits = octetBit-bits (exchanged os)
+
+  pub soFar-lt : (i : ℕ) → messageSoFar os i < 2 ^ 32
+  unfolding messageSoFar u
+  soFar-lt i = check-lt 32 messageGenerator refl u u-bits (8 * i)
+
+  -- the register starts with no octet
+  pub soFar-none : (i : ℕ) → i ≡ 0 → 0 ≡ messageSoFar os i
+  unfolding messageSoFar u
+  soFar-none i e = sym (ap (messageSoFar os) e ∙ check-none 32 messageGenerator u)
+
+  -- or with a pair, exchanged
+  pub soFar-pair : (i : ℕ) → i ≡ 2 → 1 < length os → divide 32 messageGenerator (getD os 1 0 * 256 + getD os 0 0) zeros 32 ≡ messageSoFar os i
+  unfolding messageSoFar u joined
+  soFar-pair i e h =
+      let pair = exchanged-pair os 0 (omega arith) h in
+      let value : getD os 1 0 * 256 + getD os 0 0 ≡ valueOf u 0 16 = sym (value-joined (exchanged os) (octets-exchanged os octet) 0 2 ∙ omega (arith, pair .0, pair .1)) in
+      ap (λ (x : ℕ). divide 32 messageGenerator x zeros 32) (value ∙ sym (remainder-short 32 messageGenerator u u-bits 16 (omega arith)))
+      ∙ sym (check-is 32 messageGenerator u 16) ∙ ap (messageSoFar os) (sym e)
+
+  -- it takes in two pairs more
+  pub soFar-word : (i w : ℕ) → i + 4 ≤ length os → i % 2 ≡ 0
+      → w ≡ getD os (i + 2) 0 + 256 * getD os (i + 3) 0 + 65536 * getD os i 0 + 16777216 * getD os (i + 1) 0
+      → divide 32 messageGenerator (bitXor (messageSoFar os i) w) zeros 32 ≡ messageSoFar os (i + 4)
+  unfolding messageSoFar u joined
+  soFar-word i w h even is =
+      ap (λ (x : ℕ). divide 32 messageGenerator (bitXor (messageSoFar os i) x) zeros 32) (is ∙ sym word ∙ sym (mul-one (valueOf u (8 * i) 32)))
+      ∙ sym (check-more 32 messageGenerator u u-bits (8 * i) 32 (omega arith))
+      ∙ ap (check 32 messageGenerator u) more
     where
-      same : getD os j 0 ≡ getD (exchanged os) i 0
-      same = ap (λ (k : ℕ). getD os k 0) e ∙ sym (getD-exchanged os i h)
+      more : 8 * i + 32 ≡ 8 * (i + 4)
+      more = omega arith
 
+      three : i + 2 + 1 ≡ i + 3
+      three = omega arith
+
+      first : (getD (exchanged os) i 0 ≡ getD os (i + 1) 0) × (getD (exchanged os) (i + 1) 0 ≡ getD os i 0)
+      first = exchanged-pair os i even (omega arith)
+
+      second : (getD (exchanged os) (i + 2) 0 ≡ getD os (i + 2 + 1) 0) × (getD (exchanged os) (i + 2 + 1) 0 ≡ getD os (i + 2) 0)
+      second = exchanged-pair os (i + 2) (omega arith) (omega arith)
+
+      word : valueOf u (8 * i) 32 ≡ getD os (i + 2) 0 + 256 * getD os (i + 3) 0 + 65536 * getD os i 0 + 16777216 * getD os (i + 1) 0
+      word =
+          value-joined (exchanged os) (octets-exchanged os octet) i 4
+          ∙ omega (arith, first .0, first .1, second .0, second .1, ap (λ (j : ℕ). getD (exchanged os) j 0) (add-zero i), ap (λ (j : ℕ). getD os j 0) three, ap (λ (j : ℕ). getD (exchanged os) j 0) three)
+
+  -- and a last single octet
+  pub soFar-last : (i : ℕ) → length os ≡ i + 1 → i % 2 ≡ 0
+      → divide 32 messageGenerator (bitXor (messageSoFar os i) (getD os i 0 * 2 ^ 24)) zeros 8 ≡ messageSoFar os (length os)
+  unfolding messageSoFar
+  soFar-last i e even =
+      ap (λ (o : ℕ). divide 32 messageGenerator (bitXor (messageSoFar os i) (o * 2 ^ 24)) zeros 8) (sym (exchanged-last os i even (omega arith)))
+      ∙ octet-more 32 messageGenerator (omega arith) (exchanged os) i (octets-exchanged os octet i) ∙ ap (messageSoFar os) (sym e)
+
+module _ (os : List ℕ) where
   pub messageCheck-lt : messageCheck os < 2 ^ 32
   unfolding messageCheck
   messageCheck-lt = check-lt 32 messageGenerator refl (octetBit (exchanged os)) (octetBit-bits (exchanged os)) (8 * length os)

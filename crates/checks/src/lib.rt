@@ -1,40 +1,39 @@
-// The checks of headers, blocks and messages, over any octets. The header's register takes in octets by folds. The other two
-// generators, of degree n, stand in the n high bits of a word, without their highest power, so that their checks do too.
+// The checks of headers, blocks and messages, over any octets: eight octets at a time, ten at once, four at a time. What is left of the
+// other two is taken in by a register of 32 bits, in whose high bits a generator of degree n stands without its highest power.
 ghost use mathlib.Core.Path.{_≡_};
-ghost use mathlib.Core.Bool.{cond};
-ghost use Prim.Native.Nat.{_+_, _*_, _-_, _%_, _<_};
-ghost use lib.Dec.{eqb, ltb};
+ghost use Prim.Native.Nat.{_+_, _*_, _/_, _%_};
 ghost use lib.ListN.{length};
-ghost use Rattle.foundation.specs.Bits.{zeros, octetBit};
-ghost use Rattle.polynomials.specs.Remainder.{divide, check};
+ghost use Rattle.foundation.specs.Bits.{octetBit};
+ghost use Rattle.polynomials.specs.Remainder.{remainder, check};
+ghost use Rattle.folds.specs.Folds.{headerFourth, messageTable};
 ghost use Rattle.checks.specs.Checks.{headerGenerator, headerCheck, blockCheck, messageCheck, lowestFirst, headerGood, blockGood, messageGood};
 ghost use Rattle.checks.specs.Claims.{HeaderCarries, BlockCarries, MessageCarries};
+ghost use Rattle.checks.specs.Parts.{messageSoFar};
 
 const BLOCK: u32 = 0x2C80_0000;
 
 const MESSAGE: u32 = 0x04C1_1DB7;
 
-// The header's register x times x^8. What goes out at its top comes back at x^12, x^5 and 1; of what comes back
-// at x^12 the upper four bits go out again.
-fn times_octet(x: u16) -> u16
-    ensures { λ r. ⌜ r ≡ divide 16 headerGenerator x zeros 8 ⌝ }
+// The remainder of the octets by the fourth power of the header's generator. Zeros in front add nothing, so that the first word may be
+// short.
+fn header_words(octets: &[u8]) -> u64
+    ensures { λ r. ⌜ r ≡ remainder 64 headerFourth (octetBit (now (octets .entry))) (8 * length (now (octets .entry))) ⌝ }
 {
-    let t = x >> 8;
-    let u = t ^ (t >> 4);
-    (x << 8) ^ (u << 12) ^ (u << 5) ^ u
+    let n = octets.len();
+    let mut i = n % 8;
+    let mut w = (foundation::octets::word_at(octets, 0) >> 8) >> (56 - 8 * i);
+    while i < n {
+        w = folds::header::take_word(w, foundation::octets::word_at(octets, i));
+        i += 8;
+    }
+    w
 }
 
 // The remainder that the header's check is made of.
 fn header_remainder(octets: &[u8]) -> u16
     ensures { λ r. ⌜ r ≡ check 16 headerGenerator (octetBit (now (octets .entry))) (8 * length (now (octets .entry))) ⌝ }
 {
-    let mut r: u16 = 0;
-    let mut i: usize = 0;
-    while i < octets.len() {
-        r = times_octet(r ^ ((octets[i] as u16) << 8));
-        i += 1;
-    }
-    r
+    folds::header::check_of(header_words(octets))
 }
 
 // The header's check with any mask. Octets that carry it are found good.
@@ -61,6 +60,9 @@ pub fn header_good(mask: u16, octets: &[u8]) -> bool
 pub fn block(serial: u8, octets: &[u8]) -> u16
     ensures { λ r. ⌜ (r ≡ blockCheck serial (now (octets .entry))) × BlockCarries serial (now (octets .entry)) r ⌝ }
 {
+    if octets.len() == 10 {
+        return folds::block::of_ten(serial, octets) ^ 0x1FF ^ 0x0F0;
+    }
     let data = polynomials::check_of(BLOCK, octets);
     let all = polynomials::shifts(BLOCK, data ^ (((serial % 128) as u32) << 25), 7);
     ((all >> 23) as u16) ^ 0x1FF ^ 0x0F0
@@ -84,30 +86,45 @@ fn joined(high: u8, low: u8) -> u16
     (high as u16) * 256 + low as u16
 }
 
-// The place of the octet that octet i of n is exchanged with.
-fn other(i: usize, n: usize) -> usize
-    requires { ⌜ i < n ⌝ }
-    ensures { λ r. ⌜ (r ≡ cond (eqb (i % 2) 1) (i - 1) (cond (ltb (i + 1) n) (i + 1) i)) × (r < n) ⌝ }
+// The check of the pairs before the whole words: of none, or of one.
+fn first_pair(table: &[u32], octets: &[u8]) -> u32
+    requires { ⌜ now table ≡ messageTable ⌝ }
+    ensures { λ r. ⌜ r ≡ messageSoFar (now (octets .entry)) (length (now (octets .entry)) / 2 * 2 % 4) ⌝ }
 {
-    if i % 2 == 1 {
-        return i - 1;
+    if octets.len() / 2 % 2 == 0 {
+        return 0;
     }
-    if i + 1 < n { i + 1 } else { i }
+    folds::message::times_word(table, joined(octets[1], octets[0]) as u32)
 }
 
-// The message's check.
+// The check of all pairs.
+fn message_pairs(octets: &[u8]) -> u32
+    ensures { λ r. ⌜ r ≡ messageSoFar (now (octets .entry)) (length (now (octets .entry)) / 2 * 2) ⌝ }
+{
+    let table = folds::message::table();
+    let even = octets.len() / 2 * 2;
+    let mut r = first_pair(&table, octets);
+    let mut i = even % 4;
+    while i < even {
+        r = folds::message::times_word(
+            &table,
+            r ^ four(octets[i + 2], octets[i + 3], octets[i], octets[i + 1]),
+        );
+        i += 4;
+    }
+    r
+}
+
+// The message's check. A last single octet stays where it is.
 pub fn message(octets: &[u8]) -> u32
     ensures { λ r. ⌜ r ≡ messageCheck (now (octets .entry)) ⌝ }
 {
     let n = octets.len();
-    let mut r: u32 = 0;
-    let mut i: usize = 0;
-    while i < n {
-        let j = other(i, n);
-        r = polynomials::take_octet(MESSAGE, r, octets[j]);
-        i += 1;
+    let r = message_pairs(octets);
+    if n % 2 == 0 {
+        return r;
     }
-    r
+    polynomials::take_octet(MESSAGE, r, octets[n - 1])
 }
 
 // The four octets of the message's check, the lowest first. Octets that carry them are found good.

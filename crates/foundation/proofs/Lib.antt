@@ -7,3 +7,4 @@ pub mod Filling
 pub mod Replaced
 pub mod Copying
 pub mod OctetLists
+pub mod OctetWords

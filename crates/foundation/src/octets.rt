@@ -1,7 +1,8 @@
 // Octets at a place of a slice, read and written for every place: nothing is asked of a caller.
 ghost use mathlib.Core.Path.{_≡_};
-ghost use Prim.Native.Nat.{min};
+ghost use Prim.Native.Nat.{_+_, _*_, _^_, min};
 ghost use lib.ListN.{getD};
+ghost use Rattle.foundation.specs.Bits.{octetBit, valueOf};
 ghost use Rattle.foundation.specs.Octets.{put as put·octets};
 
 // Octet i, 0 past the end.
@@ -12,6 +13,52 @@ pub fn at(octets: &[u8], i: usize) -> u8
         return octets[i];
     }
     0
+}
+
+// The number of eight octets, the first highest.
+fn eight(a: u8, b: u8, c: u8, d: u8, e: u8, f: u8, g: u8, h: u8) -> u64
+    ensures { λ r. ⌜ r ≡ 2 ^ 56 * a + 2 ^ 48 * b + 2 ^ 40 * c + 2 ^ 32 * d + 2 ^ 24 * e + 2 ^ 16 * f + 2 ^ 8 * g + h ⌝ }
+{
+    0x100_0000_0000_0000 * (a as u64)
+        + 0x1_0000_0000_0000 * (b as u64)
+        + 0x100_0000_0000 * (c as u64)
+        + 0x1_0000_0000 * (d as u64)
+        + 0x100_0000 * (e as u64)
+        + 0x1_0000 * (f as u64)
+        + 0x100 * (g as u64)
+        + (h as u64)
+}
+
+// The 64 bits from octet i on; past the end they are zeros.
+pub fn word_at(octets: &[u8], i: usize) -> u64
+    ensures { λ r. ⌜ r ≡ valueOf (octetBit (now (octets .entry))) (8 * i) 64 ⌝ }
+{
+    let n = octets.len();
+    if n <= i {
+        return 0;
+    }
+    if n - i < 8 {
+        return eight(
+            octets[i],
+            at(octets, i + 1),
+            at(octets, i + 2),
+            at(octets, i + 3),
+            at(octets, i + 4),
+            at(octets, i + 5),
+            at(octets, i + 6),
+            0,
+        );
+    }
+    eight(
+        octets[i],
+        octets[i + 1],
+        octets[i + 2],
+        octets[i + 3],
+        octets[i + 4],
+        octets[i + 5],
+        octets[i + 6],
+        octets[i + 7],
+    )
 }
 
 // Octets written over those at a place, where they fit; else nothing changes.

@@ -1,74 +1,57 @@
--- `checks::message` meets its contract: after i turns the register is the check of the first i exchanged octets.
+-- `checks::message` meets its contract.
 -- Assumes nothing.
-use mathlib.Core.Path.{_≡_, sym, ap, _∙_}
-use Prim.Native.Nat.{ℕ, _*_, _-_, _^_, _≤_}
+use mathlib.Core.Path.{_≡_, ap, _∙_}
+use Prim.Native.Nat.{ℕ, _-_, _*_, _/_, _^_}
 use native.Mathlib.Omega.{arith}
 use lib.Bits.{bitXor}
 use lib.ListN.{length, getD}
-use borrow.Author.Needs.{needs}
-use Rattle.foundation.specs.Bits.{zeros, octetBit}
+use Rattle.foundation.specs.Bits.{zeros}
+use Rattle.foundation.proofs.OctetLists.{Octets}
 use Rattle.polynomials.specs.Remainder.{divide}
-use Rattle.polynomials.proofs.Check.{check-none}
-use Rattle.checks.specs.Checks.{messageGenerator, exchanged, messageCheck}
-use Rattle.checks.proofs.Pairs.{partner}
-use Rattle.checks.proofs.MessageChecks.{soFar, soFar-more}
+use Rattle.checks.specs.Checks.{messageGenerator, messageCheck}
+use Rattle.checks.specs.Parts.{messageSoFar}
+use Rattle.checks.proofs.MessageChecks.{soFar-last}
+use borrow.Author.Needs.{needs}
 use Rattle.checks.proofs.message.Statement.{statement}
 use Rattle.checks.proofs.message.Tie as tie
 
-abbrev Inv-loop : tie.InvT-loop
-Inv-loop octets n r₀ i₀ r i = (i ≤ length octets) × (r ≡ soFar octets i)
+message-pairs-requires : tie.Need-message-pairs-requires
+message-pairs-requires c κs = search needs
 
-abbrev μ-loop : tie.MeasureT-loop
-μ-loop octets n r₀ i₀ r i = length octets - i
-
-loop-holds : tie.Need-loop-holds Inv-loop μ-loop
-loop-holds c = (omega arith, sym (check-none 32 messageGenerator (octetBit (exchanged (c .before .args .octets .now)))))
-
-other-requires : tie.Need-other-requires Inv-loop μ-loop
-other-requires c κs = search needs
-
-shared-slice-read-take-octet : tie.Need-shared-slice-read-take-octet Inv-loop μ-loop
-shared-slice-read-take-octet c = search needs
-
-take-octet-requires : tie.Need-take-octet-requires Inv-loop μ-loop
-take-octet-requires c κs = search needs
-
-add-i : tie.Need-add-i Inv-loop μ-loop
-add-i c = search needs
-
-loop-less : tie.Need-loop-less Inv-loop μ-loop
-loop-less c = search needs
-
-loop-again : tie.Need-loop-again Inv-loop μ-loop
-unfolding partner
-loop-again c =
-    let os = c .before .before .before .before .before .before .args .octets .now in
-    let t = c .before .before .before .before .loop in
-    let j = c .before .before .other in (
-      omega arith,
-      c .take-octet .ensures
-          ∙ ap (λ (x : ℕ). divide 32 messageGenerator (bitXor x (getD os (j .result) 0 * 2 ^ 24)) zeros 8) (t .inv .1)
-          ∙ soFar-more os (t .i) (j .result) (omega arith) (j .ensures .0) (omega (arith, c .before .shared-slice-known2 .given (j .result))),
-    )
-
-returns : tie.Need-returns Inv-loop μ-loop
-unfolding messageCheck
+returns : tie.Need-returns
+unfolding messageCheck messageSoFar
 returns c =
     let os = c .before .before .before .args .octets .now in
-    let done : c .before .loop .i ≡ length os = omega arith in
-    c .before .loop .inv .1 ∙ ap (soFar os) done
+    let all : length os / 2 * 2 ≡ length os = omega arith in
+    c .before .message-pairs .ensures ∙ ap (messageSoFar os) all
+
+sub-take-octet : tie.Need-sub-take-octet
+sub-take-octet c = search needs
+
+shared-slice-read-take-octet : tie.Need-shared-slice-read-take-octet
+shared-slice-read-take-octet c = search needs
+
+take-octet-requires : tie.Need-take-octet-requires
+take-octet-requires c κs = search needs
+
+returns-2 : tie.Need-returns-2
+unfolding messageCheck messageSoFar
+returns-2 c =
+    let os = c .before .before .before .before .before .args .octets .now in
+    let octet : Octets os = λ j. omega (arith, c .before .shared-slice-known2 .given j) in
+    let n : ℕ = length os - 1 in
+    let pairs : length os / 2 * 2 ≡ n = omega arith in
+    c .take-octet .ensures
+    ∙ ap (λ (x : ℕ). divide 32 messageGenerator (bitXor x (getD os n 0 * 2 ^ 24)) zeros 8) (c .before .before .before .message-pairs .ensures ∙ ap (messageSoFar os) pairs)
+    ∙ soFar-last os octet n (omega arith) (omega arith)
 
 pub message-spec : {M : Type 1} → statement M
 message-spec =
     tie.close
     (tie.spec
-    Inv-loop
-    μ-loop
-    loop-holds
-    other-requires
+    message-pairs-requires
+    returns
+    sub-take-octet
     shared-slice-read-take-octet
     take-octet-requires
-    add-i
-    loop-less
-    loop-again
-    returns)
+    returns-2)

@@ -1,0 +1,13 @@
+-- `folds::header::to_32` meets its contract.
+-- Assumes nothing.
+use mathlib.Core.Path.{refl}
+use Rattle.folds.specs.Folds.{headerHalved}
+use Rattle.folds.proofs.header.to_32.Statement.{statement}
+use Rattle.folds.proofs.header.to_32.Tie as tie
+
+returns : tie.Need-returns
+unfolding headerHalved
+returns c = refl
+
+pub to-32-spec : {M : Type 1} → statement M
+to-32-spec = tie.close (tie.spec returns)

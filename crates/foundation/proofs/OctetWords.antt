@@ -1,0 +1,43 @@
+-- Octets as numbers, the first highest.
+-- Assumes nothing.
+use mathlib.Core.Path.{_≡_, refl, sym, ap, ap₂, _∙_}
+use mathlib.Core.List.{List}
+use Prim.Native.Nat.{ℕ, zero, suc, _+_, _*_, _^_, _≤_, _<_}
+use native.Mathlib.Nat.{add-zero}
+use native.Mathlib.Omega.{arith}
+use lib.ListN.{length, getD, List·getD-eq-default}
+use Rattle.foundation.specs.Bits.{octetBit, valueOf}
+use Rattle.foundation.proofs.Runs.{value-append, octet-at}
+use Rattle.foundation.proofs.OctetLists.{Octets}
+
+-- k octets from octet i on
+unfoldable pub joined : List ℕ → ℕ → ℕ → ℕ
+joined os i zero = 0
+joined os i (suc k) = joined os i k * 256 + getD os (i + k) 0
+
+module _ (os : List ℕ) (octet : Octets os) where
+  pub value-joined : (i k : ℕ) → valueOf (octetBit os) (8 * i) (8 * k) ≡ joined os i k
+  unfolding valueOf joined
+  value-joined i zero = refl
+  value-joined i (suc k) =
+      ap (valueOf (octetBit os) (8 * i)) more ∙ value-append (octetBit os) (8 * i) (8 * k) 8
+      ∙ ap₂ (λ (x y : ℕ). x * 256 + y) (value-joined i k) (ap (λ (a : ℕ). valueOf (octetBit os) a 8) place ∙ octet-at os (i + k) (octet (i + k)))
+    where
+      more : 8 * suc k ≡ 8 * k + 8
+      more = omega arith
+
+      place : 8 * i + 8 * k ≡ 8 * (i + k)
+      place = omega arith
+
+  -- eight of them as a sum
+  pub eight-octets : (i : ℕ) → 2 ^ 56 * getD os i 0 + 2 ^ 48 * getD os (i + 1) 0 + 2 ^ 40 * getD os (i + 2) 0 + 2 ^ 32 * getD os (i + 3) 0 + 2 ^ 24 * getD os (i + 4) 0 + 2 ^ 16 * getD os (i + 5) 0 + 2 ^ 8 * getD os (i + 6) 0 + getD os (i + 7) 0 ≡ valueOf (octetBit os) (8 * i) 64
+  unfolding joined
+  eight-octets i = sym (value-joined i 8 ∙ omega (arith, ap (λ (j : ℕ). getD os j 0) (add-zero i)))
+
+  -- past the end they are zeros
+  pub none-octets : (i : ℕ) → length os ≤ i → valueOf (octetBit os) (8 * i) 64 ≡ 0
+  none-octets i h =
+      sym (eight-octets i) ∙ omega (arith, past 0, past 1, past 2, past 3, past 4, past 5, past 6, past 7, ap (λ (j : ℕ). getD os j 0) (add-zero i))
+    where
+      past : (k : ℕ) → getD os (i + k) 0 ≡ 0
+      past k = List·getD-eq-default os 0 (omega arith)
