@@ -6,13 +6,14 @@ use native.Mathlib.Omega.{arith}
 use lib.Bits.{bitXor}
 use lib.Pow.{high, low}
 use Rattle.foundation.specs.Bits.{bit, digits, zeros, followed}
+use Rattle.polynomials.specs.Words.{up}
 use Rattle.polynomials.specs.Remainder.{reduce, divide, remainder, check}
 use Rattle.foundation.proofs.Xor.{bit-xor}
 use Rattle.foundation.proofs.Runs.{digits-bits, value-whole}
 use Rattle.polynomials.proofs.Division.{divide-ext, divide-xor, divide-split, remainder-xor, remainder-short}
 use Rattle.polynomials.proofs.Check.{check-ext, check-xor}
-use Rattle.polynomials.proofs.Linear.{Linear, linear-shr, linear-mod, linear-shl, linear-then, linear-xor, linear-same}
-use Rattle.folds.specs.Folds.{headerGenerator, headerFourth, blockGenerator, up, spread, again, blockDown, blockEntered, blockFolded, blockHalved, headerDown, headerTimes, headerFolded, headerHalved}
+use Rattle.polynomials.proofs.Linear.{Linear, linear-shr, linear-mod, linear-shl, linear-then, linear-xor, linear-up, linear-same}
+use Rattle.folds.specs.Folds.{headerGenerator, headerFourth, blockGenerator, spread, again, blockDown, blockEntered, blockFolded, blockHalved, headerDown, headerTimes, headerFolded, headerHalved}
 
 -- ---- remainders and checks of the digits of a number
 
@@ -29,9 +30,6 @@ module _ (n g k : ℕ) where
 
 -- ---- folds
 
-up-linear : (k : ℕ) → Linear (up k)
-up-linear k = linear-then (λ x. x * 2 ^ k) (λ x. x % 2 ^ 64) (linear-shl k) (linear-mod 64)
-
 again-linear : (i : ℕ) → Linear (again i)
 again-linear i = linear-xor (λ t. t) (λ t. t / 2 ^ i) (λ a b. refl) (linear-shr i)
 
@@ -41,7 +39,7 @@ spread-linear i j = linear-xor (again i) (λ t. t / 2 ^ j) (again-linear i) (lin
 -- f, and u shifted up by k
 module _ (f u : ℕ → ℕ) (hf : Linear f) (hu : Linear u) where
   with-up : (k : ℕ) → Linear (λ x. bitXor (f x) (up k (u x)))
-  with-up k = linear-xor f (λ x. up k (u x)) hf (linear-then u (up k) hu (up-linear k))
+  with-up k = linear-xor f (λ x. up k (u x)) hf (linear-then u (up k) hu (linear-up k))
 
 module _ (k : ℕ) where
   above : ℕ → ℕ
@@ -113,7 +111,7 @@ block-folded a b ha hb =
 
 header-times-linear : Linear headerTimes
 unfolding headerTimes
-header-times-linear = linear-xor (λ r. bitXor (up 48 (over r)) (up 20 (over r))) over (with-up (λ r. up 48 (over r)) over (linear-then over (up 48) over-linear (up-linear 48)) over-linear 20) over-linear
+header-times-linear = linear-xor (λ r. bitXor (up 48 (over r)) (up 20 (over r))) over (with-up (λ r. up 48 (over r)) over (linear-then over (up 48) over-linear (linear-up 48)) over-linear 20) over-linear
   where
     over : ℕ → ℕ
     over r = again 32 (spread 16 44 r)
@@ -162,7 +160,7 @@ header-sixteen-linear =
     linear-then (λ x. headerHalved 1 (up 16 (headerHalved 1 (headerHalved 2 x)))) (λ x. x % 2 ^ 16)
     (linear-then (λ x. up 16 (headerHalved 1 (headerHalved 2 x))) (headerHalved 1)
     (linear-then (λ x. headerHalved 1 (headerHalved 2 x)) (up 16)
-    (linear-then (headerHalved 2) (headerHalved 1) (header-halved-linear 2) (header-halved-linear 1)) (up-linear 16)) (header-halved-linear 1)) (linear-mod 16)
+    (linear-then (headerHalved 2) (headerHalved 1) (header-halved-linear 2) (header-halved-linear 1)) (linear-up 16)) (header-halved-linear 1)) (linear-mod 16)
 
 pub header-checked : (x : ℕ) → x < 2 ^ 64 → headerSixteen x ≡ check 16 headerGenerator (digits 64 x) 64
 unfolding check followed divide reduce headerHalved

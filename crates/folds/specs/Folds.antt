@@ -6,6 +6,7 @@ use lib.Bits.{bitXor}
 use lib.ListN.{getD}
 use Rattle.foundation.specs.Bits.{tabulate, zeros}
 use Rattle.polynomials.specs.Remainder.{powers, divide}
+use Rattle.polynomials.specs.Words.{up}
 
 -- the generators, and the fourth power of the header's
 abbrev pub headerGenerator : ℕ
@@ -19,10 +20,6 @@ blockGenerator = powers (9 ∷ 6 ∷ 4 ∷ 3 ∷ 0 ∷ [])
 
 abbrev pub messageGenerator : ℕ
 messageGenerator = 2 ^ 32 + 0x04C11DB7
-
--- x shifted up by k in a word of 64 bits
-abbrev pub up : ℕ → ℕ → ℕ
-up k x = x * 2 ^ k % 2 ^ 64
 
 -- with what goes out again
 abbrev pub spread : ℕ → ℕ → ℕ → ℕ

@@ -1,15 +1,17 @@
 -- Functions that keep exclusive or: two of them that agree at each power of 2 below 2^k agree below 2^k.
 -- Assumes nothing.
-use mathlib.Core.Path.{_≡_, sym, ap, ap₂, _∙_}
+use mathlib.Core.Path.{_≡_, refl, sym, ap, ap₂, _∙_}
 use mathlib.Core.Bool.{Bool, true, false, cond}
-use Prim.Native.Nat.{ℕ, zero, suc, _*_, _-_, _/_, _%_, _^_, _<_, _≤_}
+use Prim.Native.Nat.{ℕ, zero, suc, _+_, _*_, _-_, _/_, _%_, _^_, _<_, _≤_}
 use native.Mathlib.Nat.{pow-suc}
 use native.Mathlib.Omega.{arith}
 use native.Mathlib.Decide.{decLt}
-use lib.Arith.{lt-one}
+use lib.Arith.{lt-one, bin-ind}
 use lib.Dec.{T, eqb, eqb→eq}
-use lib.Bits.{bitXor, xor-shr, xor-mod, xor-self, xor-shifted}
-use Rattle.foundation.proofs.Xor.{xor-swap, xor-shl}
+use lib.Bits.{bitXor, bitAnd, xor-shr, xor-mod, xor-self, xor-block, xor-shifted, and-shr, and-mod, and-zero-r}
+use Rattle.foundation.specs.Bits.{bit, valueOf}
+use Rattle.foundation.proofs.Xor.{odd-ind, xor-swap, xor-shl, bit-xor, bit-lt}
+use Rattle.polynomials.specs.Words.{up}
 
 abbrev pub Linear : (ℕ → ℕ) → Type 0
 Linear f = (a b : ℕ) → f (bitXor a b) ≡ bitXor (f a) (f b)
@@ -28,6 +30,48 @@ linear-then f g hf hg a b = ap g (hf a b) ∙ hg (f a) (f b)
 
 pub linear-xor : (f g : ℕ → ℕ) → Linear f → Linear g → Linear (λ x. bitXor (f x) (g x))
 linear-xor f g hf hg a b = ap₂ bitXor (hf a b) (hg a b) ∙ xor-swap (f a) (f b) (g a) (g b)
+
+-- n digits from digit s on
+pub linear-field : (s n : ℕ) → Linear (λ x. x / 2 ^ s % 2 ^ n)
+linear-field s n = linear-then (λ x. x / 2 ^ s) (λ x. x % 2 ^ n) (linear-shr s) (linear-mod n)
+
+-- a shift in a word
+pub linear-up : (k : ℕ) → Linear (up k)
+linear-up k = linear-then (λ x. x * 2 ^ k) (λ x. x % 2 ^ 64) (linear-shl k) (linear-mod 64)
+
+-- the number that digits make, each from its place
+pub linear-value : (e : ℕ → ℕ) (at k : ℕ) → Linear (λ x. valueOf (λ p. bit (e p) x) at k)
+unfolding valueOf
+linear-value e at zero a b = refl
+linear-value e at (suc k) a b =
+    ap₂ (λ (x y : ℕ). x * 2 + y) (linear-value e at k a b) (bit-xor (e (at + k)) a b)
+    ∙ sym (xor-block 1 (valueOf (λ p. bit (e p) a) at k) (valueOf (λ p. bit (e p) b) at k) (bit (e (at + k)) a) (bit (e (at + k)) b) (bit-lt (e (at + k)) a) (bit-lt (e (at + k)) b))
+
+-- ---- a mask
+
+bits-and : (a b m : ℕ) → bitAnd (bitXor (a % 2) (b % 2)) (m % 2) ≡ bitXor (bitAnd (a % 2) (m % 2)) (bitAnd (b % 2) (m % 2))
+bits-and a b m =
+    odd-ind (λ x. bitAnd (bitXor x (b % 2)) (m % 2) ≡ bitXor (bitAnd x (m % 2)) (bitAnd (b % 2) (m % 2)))
+    (odd-ind (λ y. bitAnd (bitXor 0 y) (m % 2) ≡ bitXor (bitAnd 0 (m % 2)) (bitAnd y (m % 2)))
+    (odd-ind (λ z. bitAnd (bitXor 0 0) z ≡ bitXor (bitAnd 0 z) (bitAnd 0 z)) refl refl m)
+    (odd-ind (λ z. bitAnd (bitXor 0 1) z ≡ bitXor (bitAnd 0 z) (bitAnd 1 z)) refl refl m) b)
+    (odd-ind (λ y. bitAnd (bitXor 1 y) (m % 2) ≡ bitXor (bitAnd 1 (m % 2)) (bitAnd y (m % 2)))
+    (odd-ind (λ z. bitAnd (bitXor 1 0) z ≡ bitXor (bitAnd 1 z) (bitAnd 0 z)) refl refl m)
+    (odd-ind (λ z. bitAnd (bitXor 1 1) z ≡ bitXor (bitAnd 1 z) (bitAnd 1 z)) refl refl m) b) a
+
+by-halves : (a b : ℕ) → a / 2 ≡ b / 2 → a % 2 ≡ b % 2 → a ≡ b
+by-halves a b p q = omega arith
+
+pub linear-and : (m : ℕ) → Linear (λ x. bitAnd x m)
+linear-and =
+    bin-ind (λ m. Linear (λ x. bitAnd x m)) (λ a b. and-zero-r (bitXor a b) ∙ sym (ap₂ bitXor (and-zero-r a) (and-zero-r b)))
+    (λ m ih a b. by-halves (bitAnd (bitXor a b) m) (bitXor (bitAnd a m) (bitAnd b m))
+    (and-shr (bitXor a b) m 1 ∙ ap (λ (x : ℕ). bitAnd x (m / 2)) (xor-shr a b 1) ∙ ih (a / 2) (b / 2)
+    ∙ sym (xor-shr (bitAnd a m) (bitAnd b m) 1 ∙ ap₂ bitXor (and-shr a m 1) (and-shr b m 1)))
+    (and-mod (bitXor a b) m 1 ∙ ap (λ (x : ℕ). bitAnd x (m % 2)) (xor-mod a b 1) ∙ bits-and a b m
+    ∙ sym (xor-mod (bitAnd a m) (bitAnd b m) 1 ∙ ap₂ bitXor (and-mod a m 1) (and-mod b m 1))))
+
+-- ---- functions that agree at each power of 2
 
 linear-zero : (f : ℕ → ℕ) → Linear f → f 0 ≡ 0
 linear-zero f h = h 0 0 ∙ xor-self (f 0)

@@ -3,7 +3,8 @@
 use mathlib.Core.Path.{ap, _∙_}
 use Prim.Native.Nat.{ℕ, _%_, _^_}
 use borrow.Author.Needs.{needs}
-use Rattle.folds.specs.Folds.{up, headerHalved}
+use Rattle.polynomials.specs.Words.{up}
+use Rattle.folds.specs.Folds.{headerHalved}
 use Rattle.folds.proofs.Folding.{header-checked}
 use Rattle.folds.proofs.header.check_of.Statement.{statement}
 use Rattle.folds.proofs.header.check_of.Tie as tie

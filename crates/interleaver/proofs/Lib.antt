@@ -1,0 +1,4 @@
+pub mod Turning
+pub mod Packing
+pub mod Undone
+pub mod Made
