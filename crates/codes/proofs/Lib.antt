@@ -9,6 +9,5 @@ pub mod Slices
 pub mod RowWords
 pub mod FieldWords
 pub mod FieldWriting
-pub mod Gathering
 pub mod Claims
 pub mod Examples

@@ -1,12 +1,12 @@
 // The block field, read and written by words: a word of 15 bits for each row of the matrix, column 0 the highest bit.
 ghost use mathlib.Core.Path.{_≡_};
-ghost use Prim.Native.Nat.{ℕ, _+_, _*_, _<_};
-ghost use lib.ListN.{length, getD};
-ghost use Rattle.foundation.specs.Bits.{digits, octetBit, zeros, followed, valueOf, tabulate};
+ghost use mathlib.Core.Bool.{true};
+ghost use Prim.Native.Nat.{ℕ, _+_, _*_, _^_, _<_};
+ghost use Rattle.foundation.specs.Bits.{digits, valueOf, tabulate};
 ghost use Rattle.codes.specs.Hamming.{syndrome, withParity};
-ghost use Rattle.codes.specs.Field.{information, product, plain, sent, writtenField, received, columnsGood, infoBit, infoOctets, readField};
+ghost use Rattle.codes.specs.Field.{information, product, writtenField, columnsGood, infoBit, infoOctets, readField};
 ghost use Rattle.codes.specs.Claims.{FieldComesBack};
-ghost use Rattle.codes.specs.Words.{cell, column, matrixNumber, Sliced, ColumnsRight, RowRight, RowsRight, dataRows, PlainBits, sentRun};
+ghost use Rattle.codes.specs.Words.{cell, column, matrixRead, Sliced, ColumnsRight, RowRight, RowsRight, LaneRemainders, RowRemainders, Codewords, dataRows};
 
 // What is read from a block field: number 0 and the information, or the number of the refusal and zeros.
 pub struct BlockField {
@@ -63,24 +63,45 @@ fn correct_columns(m: [u16; 13]) -> [u16; 13]
     out
 }
 
-// The remainder of a row. What stands above bit 4 k comes back at x^k + 1, since x^4 is x + 1.
-fn row_remainder(w: u16) -> u16
-    ensures { λ r. ⌜ r ≡ syndrome (digits 15 w) 15 ⌝ }
+// The remainders of four rows, each in a lane of 16 bits. What stands above bit 4 k comes back at x^k + 1, since x^4 is x + 1.
+fn lane_remainders(x: u64) -> u64
+    ensures { λ r. ⌜ LaneRemainders x r ⌝ }
 {
-    let x = w % 32768;
-    let a = x >> 8;
-    let u = (x % 256) ^ a ^ (a << 2);
-    let h = u >> 4;
-    let v = (u % 16) ^ h ^ (h << 1);
-    let g = v >> 4;
-    (v % 16) ^ g ^ (g << 1)
+    let a = (x >> 8) & 0x007F_007F_007F_007F;
+    let u = (x & 0x00FF_00FF_00FF_00FF) ^ a ^ (a << 2);
+    let h = (u >> 4) & 0x001F_001F_001F_001F;
+    let v = (u & 0x000F_000F_000F_000F) ^ h ^ (h << 1);
+    let g = (v >> 4) & 0x0003_0003_0003_0003;
+    (v & 0x000F_000F_000F_000F) ^ g ^ (g << 1)
 }
 
-// A row with one wrong bit put right. Digit s of the number is the bit that the remainder s names, 15 for none.
-fn correct_row(w: u16) -> u16
+// Four rows in a word, the first in the lowest lane.
+fn four_rows(a: u16, b: u16, c: u16, d: u16) -> u64
+    ensures { λ r. ⌜ r ≡ a + 2 ^ 16 * b + 2 ^ 32 * c + 2 ^ 48 * d ⌝ }
+{
+    (a as u64)
+        + 0x1_0000 * (b as u64)
+        + 0x1_0000_0000 * (c as u64)
+        + 0x1_0000_0000_0000 * (d as u64)
+}
+
+// The remainders of all rows, four in a word.
+fn row_remainders(m: [u16; 13]) -> [u64; 4]
+    ensures { λ s. ⌜ RowRemainders m s ⌝ }
+{
+    [
+        lane_remainders(four_rows(m[0], m[1], m[2], m[3])),
+        lane_remainders(four_rows(m[4], m[5], m[6], m[7])),
+        lane_remainders(four_rows(m[8], m[9], m[10], m[11])),
+        lane_remainders(four_rows(m[12], 0, 0, 0)),
+    ]
+}
+
+// A row with one wrong bit put right, by its remainder s. Digit s of the number is the bit that s names, 15 for none.
+fn correct_row(w: u16, s: u64) -> u16
+    requires { ⌜ s ≡ syndrome (digits 15 w) 15 ⌝ }
     ensures { λ r. ⌜ RowRight w r ⌝ }
 {
-    let s = row_remainder(w) as u64;
     let k: u64 = (0xCBD6_79E3_A582_410F >> (4 * s)) % 16;
     w ^ (1 << k)
 }
@@ -89,9 +110,10 @@ fn correct_row(w: u16) -> u16
 fn correct_rows(m: [u16; 13]) -> [u16; 13]
     ensures { λ r. ⌜ RowsRight m r ⌝ }
 {
+    let s = row_remainders(m);
     let mut out = m;
     for r in 0..13 {
-        out[r] = correct_row(out[r]);
+        out[r] = correct_row(out[r], (s[r / 4] >> (16 * (r % 4))) % 16);
     }
     out
 }
@@ -105,18 +127,15 @@ fn columns_good(m: [u16; 13]) -> bool
     x % 32768 == 0
 }
 
-// The number for a matrix whose rows are codewords.
-fn number_of(m: [u16; 13]) -> u8
-    requires { ⌜ ((r : ℕ) → r < 13 → syndrome (cell m r) 15 ≡ 0) ⌝ }
-    ensures { λ n. ⌜ n ≡ matrixNumber (cell m) ⌝ }
+// Whether every row and every column is found to be a codeword. Most fields have no wrong bit, and need no correction.
+fn is_clean(m: [u16; 13]) -> bool
+    ensures { λ r. ⌜ (r ≡ true → Codewords m) ⌝ }
 {
     if !columns_good(m) {
-        return 6;
+        return false;
     }
-    if m[0] / 4096 % 8 != 0 {
-        return 7;
-    }
-    0
+    let s = row_remainders(m);
+    (s[0] | s[1] | s[2] | s[3]) == 0
 }
 
 fn wide(x: u16) -> u32
@@ -156,53 +175,19 @@ fn info_octets(m: [u16; 13]) -> [u8; 12]
     ]
 }
 
-// An octet as a word of 16 bits.
-fn wide8(x: u8) -> u16
-    ensures { λ r. ⌜ r ≡ x ⌝ }
+// What a matrix of codewords reads as.
+fn read_matrix(m: [u16; 13]) -> BlockField
+    requires { ⌜ Codewords m ⌝ }
+    ensures { λ r. ⌜ r ≡ matrixRead (cell m) ⌝ }
 {
-    x as u16
-}
-
-// Bit i of a field.
-fn field_bit(f: &[u8], i: usize) -> u16
-    requires { ⌜ (length (now f) ≡ 25) × (i < 196) ⌝ }
-    ensures { λ r. ⌜ r ≡ octetBit (now (f .entry)) i ⌝ }
-{
-    (wide8(f[i / 8]) >> (7 - i % 8)) % 2
-}
-
-// Row r of a field.
-fn field_row(f: &[u8], r: usize) -> u16
-    requires { ⌜ (length (now f) ≡ 25) × (r < 13) ⌝ }
-    ensures { λ x. ⌜ x ≡ valueOf (received (now (f .entry)) r) 0 15 ⌝ }
-{
-    let mut x: u16 = 0;
-    for c in 0..15 {
-        x = 2 * x + field_bit(f, 181 * (1 + 15 * r + c) % 196);
+    if m[0] / 4096 % 8 != 0 {
+        return BlockField {
+            number: 7,
+            info: [0u8; 12],
+        };
     }
-    x
-}
-
-// The 13 rows of a field.
-fn field_rows(f: &[u8]) -> [u16; 13]
-    requires { ⌜ length (now f) ≡ 25 ⌝ }
-    ensures { λ m. ⌜ m ≡ tabulate 13 (λ r. valueOf (received (now (f .entry)) r) 0 15) ⌝ }
-{
-    [
-        field_row(f, 0),
-        field_row(f, 1),
-        field_row(f, 2),
-        field_row(f, 3),
-        field_row(f, 4),
-        field_row(f, 5),
-        field_row(f, 6),
-        field_row(f, 7),
-        field_row(f, 8),
-        field_row(f, 9),
-        field_row(f, 10),
-        field_row(f, 11),
-        field_row(f, 12),
-    ]
+    let info = info_octets(m);
+    BlockField { number: 0, info }
 }
 
 // Reads the 25 octets of a block field.
@@ -215,42 +200,31 @@ pub fn read(field: &[u8]) -> BlockField
             info: [0u8; 12],
         };
     }
-    let m = correct_rows(correct_columns(field_rows(field)));
-    let number = number_of(m);
-    if number != 0 {
+    let m = interleaver::reading::rows(field);
+    if is_clean(m) {
+        return read_matrix(m);
+    }
+    let corrected = correct_rows(correct_columns(m));
+    if !columns_good(corrected) {
         return BlockField {
-            number,
+            number: 6,
             info: [0u8; 12],
         };
     }
-    let info = info_octets(m);
-    BlockField { number: 0, info }
+    read_matrix(corrected)
 }
 
 // ---- writing
 
-// Bit i of the 99 that rows 0 to 8 hold: R(2), R(1), R(0), which are 0, and then the information.
-fn data_bit(info: [u8; 12], i: usize) -> u16
-    requires { ⌜ i < 99 ⌝ }
-    ensures { λ r. ⌜ r ≡ followed 3 zeros (octetBit info) i ⌝ }
-{
-    if i < 3 {
-        return 0;
-    }
-    let j = i - 3;
-    (wide8(info[j / 8]) >> (7 - j % 8)) % 2
-}
-
-// The eleven data bits of row r.
+// The eleven data bits of row r. The first eight octets of information end in row 5, the last eight begin in row 3.
 fn data_row(info: [u8; 12], r: usize) -> u16
     requires { ⌜ r < 9 ⌝ }
     ensures { λ x. ⌜ x ≡ valueOf (information info r) 0 11 ⌝ }
 {
-    let mut x: u16 = 0;
-    for c in 0..11 {
-        x = 2 * x + data_bit(info, 11 * r + c);
+    if r < 6 {
+        return ((foundation::octets::word_at(&info, 0) >> (56 - 11 * r)) % 2048) as u16;
     }
-    x
+    ((foundation::octets::word_at(&info, 4) >> (88 - 11 * r)) % 2048) as u16
 }
 
 // Eleven data bits with their four parity bits.
@@ -259,7 +233,7 @@ fn coded_row(x: u16) -> u16
     ensures { λ w. ⌜ w ≡ valueOf (withParity 11 (digits 11 x)) 0 15 ⌝ }
 {
     let w = x * 16;
-    w ^ row_remainder(w)
+    w ^ ((lane_remainders(w as u64) % 16) as u16)
 }
 
 // The nine rows of data with their parity, and four rows of zeros.
@@ -286,57 +260,10 @@ fn matrix(info: [u8; 12]) -> [u16; 13]
     m
 }
 
-// The 196 bits of a matrix in plain order, an octet for each.
-fn plain_order(m: [u16; 13]) -> [u8; 196]
-    ensures { λ p. ⌜ ((i : ℕ) → i < 196 → getD p i 0 ≡ plain (cell m) i) ⌝ }
-{
-    let mut p = [0u8; 196];
-    for i in 0..195 {
-        p[1 + i] = ((m[i / 15] >> (14 - i % 15)) % 2) as u8;
-    }
-    p
-}
-
-// Bit q of the field: the 196 in their sent order, and four zeros.
-fn sent_bit(p: &[u8; 196], q: usize) -> u8
-    requires { ⌜ q < 200 ⌝ }
-    ensures { λ x. ⌜ x ≡ sentRun (now (p .entry)) q ⌝ }
-{
-    if q < 196 {
-        return p[13 * q % 196];
-    }
-    0
-}
-
-// Octet j of the field.
-fn sent_octet(p: &[u8; 196], j: usize) -> u8
-    requires { ⌜ (j < 25) × PlainBits (now p) ⌝ }
-    ensures { λ x. ⌜ x ≡ valueOf (sentRun (now (p .entry))) (8 * j) 8 ⌝ }
-{
-    let mut x: u8 = 0;
-    for i in 0..8 {
-        x = 2 * x + sent_bit(p, 8 * j + i);
-    }
-    x
-}
-
-// The 25 octets of a plain order.
-fn sent_octets(p: &[u8; 196]) -> [u8; 25]
-    requires { ⌜ PlainBits (now p) ⌝ }
-    ensures { λ f. ⌜ f ≡ sent (λ i. getD (now (p .entry)) i 0) ⌝ }
-{
-    let mut f = [0u8; 25];
-    for j in 0..25 {
-        f[j] = sent_octet(p, j);
-    }
-    f
-}
-
 // The 25 octets of the block field for 12 octets of information. They come back also where at most one of the 15 columns holds more than
 // one wrong bit.
 pub fn write(info: [u8; 12]) -> [u8; 25]
     ensures { λ r. ⌜ (r ≡ writtenField info) × FieldComesBack info r ⌝ }
 {
-    let p = plain_order(matrix(info));
-    sent_octets(&p)
+    interleaver::writing::octets(matrix(info))
 }
