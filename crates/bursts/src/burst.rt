@@ -1,8 +1,8 @@
 // A burst of 33 octets: block field, slot type and sync.
 ghost use mathlib.Core.Path.{_≡_};
 ghost use lib.ListN.{length};
-ghost use Prim.Native.Nat.{_*_, _%_, _<_};
-ghost use Rattle.foundation.specs.Bits.{valueOf, octets};
+ghost use Prim.Native.Nat.{_+_, _*_, _%_, _^_, _<_};
+ghost use Rattle.foundation.specs.Bits.{octetBit, valueOf, octets};
 ghost use Rattle.bursts.specs.Bursts.{kindOf, slotBits, fieldOf, burstSlot, burstField, refusedBurst, readBurst, syncWord, burstBits, writtenBurst, writeBurst};
 ghost use Rattle.bursts.specs.BurstClaims.{BurstComesBack};
 ghost use Rattle.bursts.specs.Parts.{fieldRun, Typed};
@@ -74,33 +74,60 @@ pub fn slot_type(burst: &[u8]) -> SlotType
     codes::slot_type::read(slot_bits(burst))
 }
 
-// Octet j of the block field: octets 0 to 11 of the burst, the bits around the middle, and the rest four bits on.
-fn field_octet(b: &[u8], j: usize) -> u8
-    requires { ⌜ (length (now b) ≡ 33) × (j < 25) ⌝ }
-    ensures { λ r. ⌜ r ≡ valueOf (fieldRun (now (b .entry))) (8 * j) 8 ⌝ }
+// Bits 64 to 127 of the block field: 34 bits before the slot type and the sync, and 30 behind them.
+fn field_across(b: &[u8]) -> u64
+    ensures { λ r. ⌜ r ≡ valueOf (fieldRun (now (b .entry))) 64 64 ⌝ }
 {
-    if j < 12 {
-        return b[j];
-    }
-    if j == 12 {
-        return b[12] / 64 * 64 + b[20] % 4 * 16 + b[21] / 16;
-    }
-    if j == 24 {
-        return b[32] % 16 * 16;
-    }
-    b[j + 8] % 16 * 16 + b[j + 9] / 16
+    let before = foundation::octets::word_at(b, 8);
+    let behind = foundation::octets::word_at(b, 20);
+    ((before >> 30) << 30) + (behind >> 28) % 0x4000_0000
 }
 
-// The block field in 25 octets.
+// The 64 bits of a burst from the middle of octet k on.
+fn word_across(b: &[u8], k: usize) -> u64
+    requires { ⌜ k < 2 ^ 32 ⌝ }
+    ensures { λ r. ⌜ r ≡ valueOf (octetBit (now (b .entry))) (8 * k + 4) 64 ⌝ }
+{
+    let word = foundation::octets::word_at(b, k);
+    let next = foundation::octets::at(b, k + 8);
+    (word << 4) + (next / 16) as u64
+}
+
+// The block field in 25 octets; zeros where there are fewer octets than a burst has.
 fn field_octets(b: &[u8]) -> [u8; 25]
-    requires { ⌜ length (now b) ≡ 33 ⌝ }
     ensures { λ r. ⌜ r ≡ fieldOf (now (b .entry)) ⌝ }
 {
-    let mut f = [0u8; 25];
-    for j in 0..25 {
-        f[j] = field_octet(b, j);
-    }
-    f
+    let x = foundation::octets::word_at(b, 0);
+    let y = field_across(b);
+    let z = word_across(b, 24);
+    let last = word_across(b, 32);
+    [
+        ((x >> 56) % 256) as u8,
+        ((x >> 48) % 256) as u8,
+        ((x >> 40) % 256) as u8,
+        ((x >> 32) % 256) as u8,
+        ((x >> 24) % 256) as u8,
+        ((x >> 16) % 256) as u8,
+        ((x >> 8) % 256) as u8,
+        (x % 256) as u8,
+        ((y >> 56) % 256) as u8,
+        ((y >> 48) % 256) as u8,
+        ((y >> 40) % 256) as u8,
+        ((y >> 32) % 256) as u8,
+        ((y >> 24) % 256) as u8,
+        ((y >> 16) % 256) as u8,
+        ((y >> 8) % 256) as u8,
+        (y % 256) as u8,
+        ((z >> 56) % 256) as u8,
+        ((z >> 48) % 256) as u8,
+        ((z >> 40) % 256) as u8,
+        ((z >> 32) % 256) as u8,
+        ((z >> 24) % 256) as u8,
+        ((z >> 16) % 256) as u8,
+        ((z >> 8) % 256) as u8,
+        (z % 256) as u8,
+        ((last >> 56) % 256) as u8,
+    ]
 }
 
 // What the block field of a burst reads as.

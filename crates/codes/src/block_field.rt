@@ -1,7 +1,7 @@
 // The block field, read and written by words: a word of 15 bits for each row of the matrix, column 0 the highest bit.
 ghost use mathlib.Core.Path.{_≡_};
 ghost use mathlib.Core.Bool.{true};
-ghost use Prim.Native.Nat.{ℕ, _+_, _*_, _^_, _<_};
+ghost use Prim.Native.Nat.{ℕ, _+_, _*_, _/_, _%_, _^_, _<_};
 ghost use Rattle.foundation.specs.Bits.{digits, valueOf, tabulate};
 ghost use Rattle.codes.specs.Hamming.{syndrome, withParity};
 ghost use Rattle.codes.specs.Field.{information, product, writtenField, columnsGood, infoBit, infoOctets, readField};
@@ -138,40 +138,52 @@ fn is_clean(m: [u16; 13]) -> bool
     (s[0] | s[1] | s[2] | s[3]) == 0
 }
 
-fn wide(x: u16) -> u32
-    ensures { λ r. ⌜ r ≡ x ⌝ }
+// The eleven data bits of a row.
+fn data_of(w: u16) -> u64
+    ensures { λ r. ⌜ r ≡ w / 16 % 2048 ⌝ }
 {
-    x as u32
+    (w / 16 % 2048) as u64
 }
 
-// Information octet j: eight of the 22 information bits in two rows.
-fn info_octet(m: [u16; 13], j: usize) -> u8
-    requires { ⌜ j < 12 ⌝ }
-    ensures { λ r. ⌜ r ≡ valueOf (infoBit (cell m)) (8 * j) 8 ⌝ }
+// Information bits 0 to 63. R(2), R(1), R(0) go out at the top.
+fn first_info(m: [u16; 13]) -> u64
+    ensures { λ r. ⌜ r ≡ valueOf (infoBit (cell m)) 0 64 ⌝ }
 {
-    let q = (8 * j + 3) / 11;
-    let high = wide(m[q] / 16 % 2048);
-    let low = wide(m[q + 1] / 16 % 2048);
-    (((2048 * high + low) >> (14 - (8 * j + 3) % 11)) % 256) as u8
+    (data_of(m[0]) << 56)
+        + (data_of(m[1]) << 45)
+        + (data_of(m[2]) << 34)
+        + (data_of(m[3]) << 23)
+        + (data_of(m[4]) << 12)
+        + (data_of(m[5]) << 1)
+        + (data_of(m[6]) >> 10)
+}
+
+// Information bits 64 to 95.
+fn last_info(m: [u16; 13]) -> u64
+    ensures { λ r. ⌜ r ≡ valueOf (infoBit (cell m)) 64 32 ⌝ }
+{
+    ((data_of(m[6]) % 1024) << 22) + (data_of(m[7]) << 11) + data_of(m[8])
 }
 
 // The 12 information octets.
 fn info_octets(m: [u16; 13]) -> [u8; 12]
     ensures { λ r. ⌜ r ≡ infoOctets (cell m) ⌝ }
 {
+    let a = first_info(m);
+    let b = last_info(m) << 32;
     [
-        info_octet(m, 0),
-        info_octet(m, 1),
-        info_octet(m, 2),
-        info_octet(m, 3),
-        info_octet(m, 4),
-        info_octet(m, 5),
-        info_octet(m, 6),
-        info_octet(m, 7),
-        info_octet(m, 8),
-        info_octet(m, 9),
-        info_octet(m, 10),
-        info_octet(m, 11),
+        ((a >> 56) % 256) as u8,
+        ((a >> 48) % 256) as u8,
+        ((a >> 40) % 256) as u8,
+        ((a >> 32) % 256) as u8,
+        ((a >> 24) % 256) as u8,
+        ((a >> 16) % 256) as u8,
+        ((a >> 8) % 256) as u8,
+        (a % 256) as u8,
+        ((b >> 56) % 256) as u8,
+        ((b >> 48) % 256) as u8,
+        ((b >> 40) % 256) as u8,
+        ((b >> 32) % 256) as u8,
     ]
 }
 

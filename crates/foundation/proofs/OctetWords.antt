@@ -1,13 +1,13 @@
--- Octets as numbers, the first highest.
+-- Octets as numbers and words, the first highest.
 -- Assumes nothing.
 use mathlib.Core.Path.{_≡_, refl, sym, ap, ap₂, _∙_}
 use mathlib.Core.List.{List}
-use Prim.Native.Nat.{ℕ, zero, suc, _+_, _*_, _^_, _≤_, _<_}
+use Prim.Native.Nat.{ℕ, zero, suc, _+_, _*_, _-_, _/_, _%_, _^_, _≤_, _<_}
 use native.Mathlib.Nat.{add-zero}
 use native.Mathlib.Omega.{arith}
 use lib.ListN.{length, getD, List·getD-eq-default}
-use Rattle.foundation.specs.Bits.{octetBit, valueOf}
-use Rattle.foundation.proofs.Runs.{value-append, octet-at}
+use Rattle.foundation.specs.Bits.{Bits, octetBit, valueOf, tabulate, octets}
+use Rattle.foundation.proofs.Runs.{value-append, value-part, tabulate-ext, octet-at}
 use Rattle.foundation.proofs.OctetLists.{Octets}
 
 -- k octets from octet i on
@@ -41,3 +41,26 @@ module _ (os : List ℕ) (octet : Octets os) where
     where
       past : (k : ℕ) → getD os (i + k) 0 ≡ 0
       past k = List·getD-eq-default os 0 (omega arith)
+
+-- ---- octets out of words
+
+-- a run of bits in words of 64 bits, the first highest
+module _ (u : ℕ → ℕ) (bits : Bits u) (ws : List ℕ) (n : ℕ) (word : (q : ℕ) → 8 * q < n → getD ws q 0 ≡ valueOf u (64 * q) 64) where
+  octet-of : ℕ → ℕ
+  octet-of j = getD ws (j / 8) 0 / 2 ^ (56 - 8 * (j % 8)) % 2 ^ 8
+
+  octet-is : (j : ℕ) → j < n → octet-of j ≡ valueOf u (8 * j) 8
+  unfolding octet-of
+  octet-is j h =
+      ap (λ (w : ℕ). w / 2 ^ (56 - 8 * (j % 8)) % 2 ^ 8) (word (j / 8) (omega arith) ∙ ap (valueOf u (64 * (j / 8))) all)
+      ∙ value-part u bits (64 * (j / 8)) (8 * (j % 8)) 8 (56 - 8 * (j % 8)) ∙ ap (λ (at : ℕ). valueOf u at 8) place
+    where
+      all : 64 ≡ 8 * (j % 8) + 8 + (56 - 8 * (j % 8))
+      all = omega arith
+
+      place : 64 * (j / 8) + 8 * (j % 8) ≡ 8 * j
+      place = omega arith
+
+  pub words-octets : tabulate n (λ j. getD ws (j / 8) 0 / 2 ^ (56 - 8 * (j % 8)) % 2 ^ 8) ≡ octets n u
+  unfolding octets octet-of
+  words-octets = tabulate-ext n octet-of (λ j. valueOf u (8 * j) 8) octet-is

@@ -12,6 +12,7 @@ use Rattle.foundation.specs.Bits.{Bits, bit, digits, zeros, followed, valueOf, 
 use Rattle.foundation.proofs.Xor.{bit-lt}
 use Rattle.foundation.proofs.Runs.{digits-bits, zeros-bits, followed-bits, value-lt, value-ext, value-append, value-part, value-followed, digits-whole, tabulate-ext}
 use Rattle.foundation.proofs.RunParts.{value-last-digits}
+use Rattle.foundation.proofs.OctetWords.{words-octets}
 use Rattle.polynomials.specs.Words.{up}
 use Rattle.polynomials.proofs.Linear.{Linear, linear-shr, linear-shl, linear-mod, linear-field, linear-value, linear-up, linear-then, linear-xor, linear-same}
 use Rattle.interleaver.specs.Lanes.{part, swapped, crossedHigh, crossedLow, within, turnedBy, turnedSquare}
@@ -239,16 +240,5 @@ module _ (m : List ℕ) where
     word (suc (suc (suc (suc q)))) h = absurd (omega arith)
 
     pub octets-sent : tabulate 25 (λ j. getD (a ∷ b ∷ c ∷ d ∷ []) (j / 8) 0 / 2 ^ (56 - 8 * (j % 8)) % 2 ^ 8) ≡ octets 25 (sentRun m)
-    unfolding octets u
-    octets-sent = tabulate-ext 25 (λ j. getD (a ∷ b ∷ c ∷ d ∷ []) (j / 8) 0 / 2 ^ (56 - 8 * (j % 8)) % 2 ^ 8) (λ j. valueOf u (8 * j) 8) octet
-      where
-        octet : (j : ℕ) → j < 25 → getD (a ∷ b ∷ c ∷ d ∷ []) (j / 8) 0 / 2 ^ (56 - 8 * (j % 8)) % 2 ^ 8 ≡ valueOf u (8 * j) 8
-        octet j h =
-            ap (λ (w : ℕ). w / 2 ^ (56 - 8 * (j % 8)) % 2 ^ 8) (word (j / 8) (omega arith) ∙ ap (valueOf u (64 * (j / 8))) all)
-            ∙ value-part u sent-bits (64 * (j / 8)) (8 * (j % 8)) 8 (56 - 8 * (j % 8)) ∙ ap (λ (at : ℕ). valueOf u at 8) place
-          where
-            all : 64 ≡ 8 * (j % 8) + 8 + (56 - 8 * (j % 8))
-            all = omega arith
-
-            place : 64 * (j / 8) + 8 * (j % 8) ≡ 8 * j
-            place = omega arith
+    unfolding u
+    octets-sent = words-octets (sentRun m) sent-bits (a ∷ b ∷ c ∷ d ∷ []) 25 (λ q h. word q (omega arith))

@@ -1,61 +1,136 @@
--- `bursts::burst::field_octets` meets its contract: the first j octets are filled.
+-- `bursts::burst::field_octets` meets its contract.
 -- Assumes nothing.
-use Prim.Native.Nat.{_*_, _-_, _≤_}
-use native.Mathlib.Omega.{arith}
-use lib.Dec.{lit≤}
-use Rattle.foundation.specs.Bits.{valueOf, octets}
-use Rattle.foundation.proofs.Filling.{Filled, filled-start, filled-more, filled-done}
+use native.Mathlib.Nat.{div-one}
 use Rattle.bursts.specs.Bursts.{fieldOf}
-use Rattle.bursts.specs.Parts.{fieldRun}
+use Rattle.bursts.proofs.Reading.{field-words}
+use borrow.Author.Needs.{needs}
 use Rattle.bursts.proofs.burst.field_octets.Statement.{statement}
 use Rattle.bursts.proofs.burst.field_octets.Tie as tie
 
-abbrev Inv-loop : tie.InvT-loop
-Inv-loop b f₀ j₀ f j = (j ≤ 25) × Filled 25 (λ k. valueOf (fieldRun b) (8 * k) 8) j f
+word-at-requires : tie.Need-word-at-requires
+word-at-requires c κs = search needs
 
-abbrev μ-loop : tie.MeasureT-loop
-μ-loop b f₀ j₀ f j = 25 - j
+field-across-requires : tie.Need-field-across-requires
+field-across-requires c κs = search needs
 
-loop-holds : tie.Need-loop-holds Inv-loop μ-loop
-loop-holds c =
-    let a = c .before .args in
-    (lit≤ tt, filled-start 25 (λ k. valueOf (fieldRun (a .b .now)) (8 * k) 8) 0 (λ i h. absurd (omega arith)))
+word-across-requires : tie.Need-word-across-requires
+word-across-requires c κs = search needs
 
-field-octet-requires : tie.Need-field-octet-requires Inv-loop μ-loop
-field-octet-requires c κs = (c .before .before .before .pre, omega arith)
+word-across-requires-2 : tie.Need-word-across-requires-2
+word-across-requires-2 c κs = search needs
 
-array-write-f : tie.Need-array-write-f Inv-loop μ-loop
-array-write-f c = omega arith
+cast-t8 : tie.Need-cast-t8
+cast-t8 c = search needs
 
-add-j : tie.Need-add-j Inv-loop μ-loop
-add-j c = omega arith
+cast-t11 : tie.Need-cast-t11
+cast-t11 c = search needs
 
-loop-less : tie.Need-loop-less Inv-loop μ-loop
-loop-less c = omega arith
+cast-t14 : tie.Need-cast-t14
+cast-t14 c = search needs
 
-loop-again : tie.Need-loop-again Inv-loop μ-loop
-loop-again c =
-    let a = c .before .before .before .before .args in
-    let l = c .before .before .loop in
-    (omega arith, filled-more 25 (λ k. valueOf (fieldRun (a .b .now)) (8 * k) 8) (l .j) (c .field-octet .result) (l .f) (c .before .loop-test .taken) (c .field-octet .ensures) (l .inv .1))
+cast-t17 : tie.Need-cast-t17
+cast-t17 c = search needs
 
-returns : tie.Need-returns Inv-loop μ-loop
-unfolding fieldOf octets
+cast-t20 : tie.Need-cast-t20
+cast-t20 c = search needs
+
+cast-t23 : tie.Need-cast-t23
+cast-t23 c = search needs
+
+cast-t26 : tie.Need-cast-t26
+cast-t26 c = search needs
+
+cast-t28 : tie.Need-cast-t28
+cast-t28 c = search needs
+
+cast-t31 : tie.Need-cast-t31
+cast-t31 c = search needs
+
+cast-t34 : tie.Need-cast-t34
+cast-t34 c = search needs
+
+cast-t37 : tie.Need-cast-t37
+cast-t37 c = search needs
+
+cast-t40 : tie.Need-cast-t40
+cast-t40 c = search needs
+
+cast-t43 : tie.Need-cast-t43
+cast-t43 c = search needs
+
+cast-t46 : tie.Need-cast-t46
+cast-t46 c = search needs
+
+cast-t49 : tie.Need-cast-t49
+cast-t49 c = search needs
+
+cast-t51 : tie.Need-cast-t51
+cast-t51 c = search needs
+
+cast-t54 : tie.Need-cast-t54
+cast-t54 c = search needs
+
+cast-t57 : tie.Need-cast-t57
+cast-t57 c = search needs
+
+cast-t60 : tie.Need-cast-t60
+cast-t60 c = search needs
+
+cast-t63 : tie.Need-cast-t63
+cast-t63 c = search needs
+
+cast-t66 : tie.Need-cast-t66
+cast-t66 c = search needs
+
+cast-t69 : tie.Need-cast-t69
+cast-t69 c = search needs
+
+cast-t72 : tie.Need-cast-t72
+cast-t72 c = search needs
+
+cast-t74 : tie.Need-cast-t74
+cast-t74 c = search needs
+
+cast-t77 : tie.Need-cast-t77
+cast-t77 c = search needs
+
+returns : tie.Need-returns
+unfolding fieldOf
 returns c =
-    let a = c .before .before .before .args in
-    let l = c .before .loop in
-    filled-done 25 (λ k. valueOf (fieldRun (a .b .now)) (8 * k) 8) (l .j) (l .f) (λ i h k. absurd (omega arith)) (l .inv .1)
+    simp div-one at (field-words (c .before .before .before .before .before .args .b .now) (c .before .before .before .word-at .result) (c .before .before .field-across .result) (c .before .word-across .result) (c .word-across2 .result) (c .before .before .before .word-at .ensures) (c .before .before .field-across .ensures)
+    (c .before .word-across .ensures) (c .word-across2 .ensures))
 
 pub field-octets-spec : {M : Type 1} → statement M
 field-octets-spec =
     tie.close
     (tie.spec
-    Inv-loop
-    μ-loop
-    loop-holds
-    field-octet-requires
-    array-write-f
-    add-j
-    loop-less
-    loop-again
+    word-at-requires
+    field-across-requires
+    word-across-requires
+    word-across-requires-2
+    cast-t8
+    cast-t11
+    cast-t14
+    cast-t17
+    cast-t20
+    cast-t23
+    cast-t26
+    cast-t28
+    cast-t31
+    cast-t34
+    cast-t37
+    cast-t40
+    cast-t43
+    cast-t46
+    cast-t49
+    cast-t51
+    cast-t54
+    cast-t57
+    cast-t60
+    cast-t63
+    cast-t66
+    cast-t69
+    cast-t72
+    cast-t74
+    cast-t77
     returns)
