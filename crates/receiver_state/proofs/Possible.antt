@@ -1,6 +1,6 @@
 -- Which receivers there can be: a test that fails decides, and the last test decides where the others are passed.
 -- Assumes nothing.
-use mathlib.Core.Path.{_≡_, refl, sym, _∙_}
+use mathlib.Core.Path.{_≡_, sym, _∙_}
 use mathlib.Core.Bool.{Bool, true, false, cond, not}
 use mathlib.Core.List.{List, [], _∷_}
 use mathlib.Core.Logic.{_≢_}
@@ -8,7 +8,7 @@ use Prim.Native.Nat.{ℕ, _*_, _-_, _^_, _≤_, _<_}
 use native.Mathlib.Omega.{arith}
 use lib.Dec.{eqb, leb, ltb}
 use lib.ListN.{getD}
-use borrow.Author.Tests.{eq-eqb, ne-eqb, lt-ltb, le-ltb, le-leb}
+use borrow.Author.Tests.{eq-eqb, ne-eqb, lt-ltb, le-leb}
 use Rattle.addresses.specs.declared.RadioAddress.{RadioAddress}
 use Rattle.foundation.specs.Order.{every, all}
 use Rattle.foundation.proofs.Tests.{last}
@@ -63,41 +63,29 @@ module _ (t : Transaction) where
   blocks-decide source sap ns pad =
       rw (eq-eqb (t .source .0) 0 source, eq-eqb (t .sap) 0 sap, eq-eqb (t .ns) 0 ns, eq-eqb (t .pad) 0 pad) (last (eqb (t .blocks) 0))
 
--- ---- no flag past the blocks
-
-module _ (flags : List ℕ) (blocks : ℕ) where
-  abbrev pub notPast : ℕ → Bool
-  notPast i = cond (ltb i blocks) true (not (flagged flags i))
-
-  pub none-from : noneFrom blocks flags flagCount ≡ every flagCount notPast
-  unfolding noneFrom
-  none-from = refl
-
-  pub flag-below : (i : ℕ) → i < blocks → notPast i ≡ true
-  flag-below i h = rw (lt-ltb i blocks h)
-
-  pub flag-past : (i : ℕ) (s : Bool) → blocks ≤ i → flagged flags i ≡ s → notPast i ≡ not s
-  flag-past i s h e = rw (le-ltb i blocks h, e)
-
 -- ---- the receiver
 
 module _ (rx : Receiver) where
   abbrev fields : Bool
   fields = cond (eqb (rx .phase) 0) (transactionNone (rx .transaction)) (transactionGood (rx .transaction))
 
+  -- no flag past the blocks
+  abbrev nonePast : Bool
+  nonePast = every flagCount (λ i. cond (ltb i (rx .transaction .blocks)) true (not (flagged (rx .flags) i)))
+
   abbrev tests : List Bool
   tests =
-      ltb (rx .own .0) (2 ^ 24) ∷ leb (rx .phase) 2 ∷ fields ∷ noneFrom (rx .transaction .blocks) (rx .flags) flagCount
+      ltb (rx .own .0) (2 ^ 24) ∷ leb (rx .phase) 2 ∷ fields ∷ nonePast
       ∷ cond (eqb (rx .phase) 1) (not (allHeld rx)) true ∷ cond (eqb (rx .phase) 2) (allHeld rx) true ∷ []
 
   pub not-possible : (i : ℕ) → getD tests i true ≡ false → false ≡ receiverGood rx
-  unfolding receiverGood
+  unfolding receiverGood noneFrom
   not-possible i e = sym (all-fails tests i e)
 
-  module _ (own : ltb (rx .own .0) (2 ^ 24) ≡ true) (phase : rx .phase ≤ 2) (good : fields ≡ true) (none : noneFrom (rx .transaction .blocks) (rx .flags) flagCount ≡ true) where
+  module _ (own : ltb (rx .own .0) (2 ^ 24) ≡ true) (phase : rx .phase ≤ 2) (good : fields ≡ true) (none : nonePast ≡ true) where
     -- what is left of the tests
     left : receiverGood rx ≡ all (cond (eqb (rx .phase) 1) (not (allHeld rx)) true ∷ cond (eqb (rx .phase) 2) (allHeld rx) true ∷ [])
-    unfolding receiverGood all
+    unfolding receiverGood noneFrom all
     left = rw (own, le-leb (rx .phase) 2 phase, good, none)
 
     module _ (held : Bool) (is : held ≡ every (rx .transaction .blocks) (flagged (rx .flags))) where

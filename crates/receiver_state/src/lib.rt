@@ -2,13 +2,12 @@
 ghost use mathlib.Core.Path.{_≡_};
 ghost use mathlib.Core.Bool.{cond};
 ghost use lib.Dec.{eqb};
-ghost use Rattle.transactions.specs.Flags.{flagCount};
-ghost use Rattle.receiver_state.specs.Receiver.{freshReceiver, freshFor, transactionGood, transactionNone, noneFrom, receiverGood};
+ghost use Rattle.receiver_state.specs.Receiver.{freshReceiver, freshFor, transactionGood, transactionNone, receiverGood};
 use addresses::RadioAddress;
 use messages::message::BLOCK;
 use messages::message::CHECK;
 use messages::message::MOST_BLOCKS;
-use transactions::flags::FLAGS;
+use transactions::flags::FLAG_OCTETS;
 use transactions::header::Transaction;
 
 // Octets of the message store that a receiver is lent.
@@ -19,7 +18,7 @@ pub struct Receiver {
     pub own: RadioAddress,
     pub phase: u8,
     pub transaction: Transaction,
-    pub flags: [u8; 8],
+    pub flags: [u8; FLAG_OCTETS],
 }
 
 // A fresh receiver and number 0, or the number of the refusal and a receiver of address 0.
@@ -43,7 +42,7 @@ fn idle(own: RadioAddress) -> Receiver
         own,
         phase: 0,
         transaction,
-        flags: [0u8; 8],
+        flags: [0u8; FLAG_OCTETS],
     }
 }
 
@@ -112,22 +111,6 @@ fn transaction_none(t: Transaction) -> bool
     t.blocks == 0
 }
 
-// Whether no block is flagged whose serial is `blocks` or more.
-fn none_from(flags: [u8; 8], blocks: usize) -> bool
-    ensures { λ r. ⌜ r ≡ noneFrom blocks flags flagCount ⌝ }
-{
-    let mut n: usize = FLAGS;
-    while 0 < n {
-        n -= 1;
-        if blocks <= n {
-            if transactions::flags::is_set(flags, n) {
-                return false;
-            }
-        }
-    }
-    true
-}
-
 // Whether the fields are those of the phase.
 fn fields_good(phase: u8, t: Transaction) -> bool
     ensures { λ r. ⌜ r ≡ cond (eqb phase 0) (transactionNone t) (transactionGood t) ⌝ }
@@ -155,7 +138,7 @@ pub fn is_good(rx: Receiver) -> bool
     }
     let flags = rx.flags;
     let blocks = t.blocks as usize;
-    if !none_from(flags, blocks) {
+    if !transactions::flags::none_from(flags, blocks) {
         return false;
     }
     let all = transactions::flags::all_below(flags, blocks);

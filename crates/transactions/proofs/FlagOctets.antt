@@ -1,7 +1,7 @@
 -- Flags of blocks in octets: what they are with one more, without any, and as made of a test.
 -- Assumes nothing.
 use mathlib.Core.Path.{_≡_, refl, sym, ap, ap₂, subst, _∙_}
-use mathlib.Core.Bool.{Bool, true, false, not, cond, Bool·beq}
+use mathlib.Core.Bool.{Bool, true, false, cond}
 use mathlib.Core.List.{List}
 use mathlib.Core.Logic.{_≢_}
 use Prim.Native.Nat.{ℕ, zero, suc, _+_, _*_, _-_, _/_, _%_, _^_, _≤_, _<_}
@@ -17,8 +17,8 @@ use borrow.Author.Tests.{eqb-true, eqb-false, eq-eqb, ne-eqb}
 use Rattle.foundation.specs.Bits.{bit}
 use Rattle.foundation.proofs.Runs.{getD-tabulate, tabulated}
 use Rattle.foundation.specs.Order.{every}
-use Rattle.foundation.proofs.Tests.{every-at, every-ext, all-eq, all-eq₂}
-use Rattle.transactions.specs.Flags.{flagged, weights, flagOctets, withFlag}
+use Rattle.foundation.proofs.Tests.{every-at, all-eq, all-eq₂}
+use Rattle.transactions.specs.Flags.{flagOctetCount, flagCount, flagged, weights, flagOctets, withFlag}
 use Rattle.foundation.proofs.Filling.{getD-zeros}
 use Rattle.foundation.proofs.Tests.{either}
 
@@ -107,10 +107,10 @@ unset : (os : List ℕ) (n : ℕ) → getD os (n / 8) 0 ≡ 0 → flagged os n �
 unfolding flagged
 unset os n e = rw (e, zero-div (2 ^ (n % 8)))
 
-pub flagged-none : (n : ℕ) → flagged (replicate 8 0) n ≡ false
-flagged-none n = unset (replicate 8 0) n (getD-zeros 8 (n / 8))
+pub flagged-none : (n : ℕ) → flagged (replicate flagOctetCount 0) n ≡ false
+flagged-none n = unset (replicate flagOctetCount 0) n (getD-zeros flagOctetCount (n / 8))
 
-pub flagged-far : (os : List ℕ) (n : ℕ) → length os ≡ 8 → 64 ≤ n → flagged os n ≡ false
+pub flagged-far : (os : List ℕ) (n : ℕ) → length os ≡ flagOctetCount → flagCount ≤ n → flagged os n ≡ false
 flagged-far os n e h = unset os n (List·getD-eq-default os 0 (omega arith))
 
 -- ---- the octets of a test
@@ -137,7 +137,7 @@ digit-lt true = omega arith
 digit-lt false = omega arith
 
 module _ (f : ℕ → Bool) (at : ℕ) where
-  weights-more : (m : ℕ) → weights f at (suc m) ≡ cond (f (at + m)) 1 0 * 2 ^ m + weights f at m
+  pub weights-more : (m : ℕ) → weights f at (suc m) ≡ cond (f (at + m)) 1 0 * 2 ^ m + weights f at m
   unfolding weights
   weights-more m = omega (arith, digit (f (at + m)) (2 ^ m))
 
@@ -174,10 +174,10 @@ unfolding weights
 weights-ext f g at at′ zero h = refl
 weights-ext f g at at′ (suc m) h = ap₂ (λ (x : ℕ) (t : Bool). x + cond t (2 ^ m) 0) (weights-ext f g at at′ m (λ k l. h k (omega arith))) (h m (omega arith))
 
-pub flagged-octets : (f : ℕ → Bool) (n : ℕ) → n < 64 → flagged (flagOctets f) n ≡ f n
+pub flagged-octets : (f : ℕ → Bool) (n : ℕ) → n < flagCount → flagged (flagOctets f) n ≡ f n
 unfolding flagged flagOctets
 flagged-octets f n h =
-    ap (λ (x : ℕ). eqb (bit (n % 8) x) 1) (getD-tabulate 8 (λ j. weights f (8 * j) 8) (n / 8) 0 (omega arith))
+    ap (λ (x : ℕ). eqb (bit (n % 8) x) 1) (getD-tabulate flagOctetCount (λ j. weights f (8 * j) 8) (n / 8) 0 (omega arith))
     ∙ ap (λ (x : ℕ). eqb x 1) (bit-weights f (8 * (n / 8)) 8 (n % 8) (omega arith)) ∙ is-one (f (8 * (n / 8) + n % 8)) ∙ ap f whole
   where
     is-one : (t : Bool) → eqb (cond t 1 0) 1 ≡ t
@@ -192,29 +192,14 @@ octet-weights : (x : ℕ) → x < 256 → weights (λ k. eqb (bit k x) 1) 0 8 �
 unfolding weights
 octet-weights = all-eq 256 (λ x. weights (λ k. eqb (bit k x) 1) 0 8) (λ x. x) tt
 
-pub octets-of-flags : (os : List ℕ) → length os ≡ 8 → ((i : ℕ) → getD os i 0 < 256) → flagOctets (flagged os) ≡ os
-unfolding flagOctets flagged
-octets-of-flags os e octet = sym (tabulated 8 (λ j. weights (flagged os) (8 * j) 8) os e (λ j l. sym (one j)))
-  where
-    one : (j : ℕ) → weights (flagged os) (8 * j) 8 ≡ getD os j 0
-    one j =
-        weights-ext (flagged os) (λ k. eqb (bit k (getD os j 0)) 1) (8 * j) 0 8
-        (λ k l. ap₂ (λ (i p : ℕ). eqb (bit p (getD os i 0)) 1) (omega arith) (omega arith))
-        ∙ octet-weights (getD os j 0) (octet j)
+module _ (os : List ℕ) (octet : (i : ℕ) → getD os i 0 < 256) where
+  pub octet-of-flags : (j : ℕ) → weights (flagged os) (8 * j) 8 ≡ getD os j 0
+  unfolding flagged
+  octet-of-flags j =
+      weights-ext (flagged os) (λ k. eqb (bit k (getD os j 0)) 1) (8 * j) 0 8
+      (λ k l. ap₂ (λ (i p : ℕ). eqb (bit p (getD os i 0)) 1) (omega arith) (omega arith))
+      ∙ octet-weights (getD os j 0) (octet j)
 
--- ---- every flag below n as wanted
-
-is-true : (t : Bool) → Bool·beq t true ≡ t
-is-true true = refl
-is-true false = refl
-
-is-false : (t : Bool) → Bool·beq t false ≡ not t
-is-false true = refl
-is-false false = refl
-
-module _ (flags : List ℕ) (n : ℕ) where
-  pub all-flagged : every n (λ i. Bool·beq (flagged flags i) true) ≡ every n (flagged flags)
-  all-flagged = every-ext n _ (flagged flags) (λ i h. is-true (flagged flags i))
-
-  pub none-flagged : every n (λ i. Bool·beq (flagged flags i) false) ≡ every n (λ i. not (flagged flags i))
-  none-flagged = every-ext n _ _ (λ i h. is-false (flagged flags i))
+pub octets-of-flags : (os : List ℕ) → length os ≡ flagOctetCount → ((i : ℕ) → getD os i 0 < 256) → flagOctets (flagged os) ≡ os
+unfolding flagOctets
+octets-of-flags os e octet = sym (tabulated flagOctetCount (λ j. weights (flagged os) (8 * j) 8) os e (λ j l. sym (octet-of-flags os octet j)))
