@@ -13,7 +13,7 @@ use lib.Seq.{take-all, length-take-le}
 use Rattle.addresses.specs.Octets.{numberAt}
 use Rattle.addresses.specs.declared.RadioAddress.{RadioAddress}
 use Rattle.foundation.specs.Order.{firstFailed, all}
-use Rattle.foundation.proofs.Tests.{last, not-true, choose, same-test}
+use Rattle.foundation.proofs.Tests.{either, last, not-true, choose, same-test}
 use Rattle.checks.specs.Checks.{headerGood}
 use Rattle.foundation.proofs.Order.{all-nil, all-cons, all-at, all-fails, all-append, alike-first}
 use Rattle.packets.proofs.Octets.{Octets}
@@ -159,6 +159,11 @@ module _ (rx : Receiver) (form store : List ℕ) where
 
   pub number-1 : usable rx (length store) (length form) ≡ false → 1 ≡ restoreNumber rx form store
   number-1 u = sym (number-steps ∙ rw u)
+
+  pub sizes : restoreNumber rx form store ≡ 0 → (length store ≡ storeSize) × (length form ≡ 2 * storedBlock)
+  sizes e =
+      either (usable rx (length store) (length form)) (usable-sizes rx (length store) (length form))
+      (λ u. let z : _≡_ {A = ℕ} 1 0 = number-1 u ∙ e in absurd (omega arith))
 
   module _ (u : usable rx (length store) (length form) ≡ true) (a b : List ℕ) (r : Receiver) (os : List ℕ)
       (is-a : a ≡ block0 form) (is-b : b ≡ block1 form) (is-r : r ≡ receiverIn a) (is-os : os ≡ storeIn a b) where
