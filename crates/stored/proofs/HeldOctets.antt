@@ -44,24 +44,24 @@ module _ (f : ℕ → Bool) (o : ℕ → ℕ) where
       let e : at + suc n ≡ suc at + n = omega arith in
       rw (e, held-append (suc at) n m, suc-add n m)
 
+  -- those that stand in a list at their places are a part of it
+  pub held-part : (os : List ℕ) (at n : ℕ) → at + n ≤ length os → ((i : ℕ) → at ≤ i → i < at + n → heldOctet i ≡ getD os i 0)
+      → heldOctets f o at n ≡ take n (drop at os)
+  held-part os at n h k =
+      ext-getD 0 (heldOctets f o at n) (take n (drop at os)) (size ∙ sym (length-take-le n (drop at os) (omega (arith, length-drop at os))))
+      (λ i l. same i (omega (arith, size)))
+    where
+      size : length (heldOctets f o at n) ≡ n
+      size = length-held at n
+
+      same : (i : ℕ) → i < n → getD (heldOctets f o at n) i 0 ≡ getD (take n (drop at os)) i 0
+      same i l = held-at at n i l ∙ k (at + i) (omega arith) (omega arith) ∙ sym (getD-take n (drop at os) i 0 l ∙ getD-drop at os i 0)
+
 -- where the octets of blocks not held are zero, the held octets are all
 pub held-all : (f : ℕ → Bool) (os : List ℕ) (at n : ℕ) → at + n ≤ length os → ((i : ℕ) → i < at + n → f (i / blockSize) ≡ false → getD os i 0 ≡ 0)
     → heldOctets f (λ i. getD os i 0) at n ≡ take n (drop at os)
 held-all f os at n h z =
-    ext-getD 0 (heldOctets f o at n) (take n (drop at os)) (size ∙ sym (length-take-le n (drop at os) (omega (arith, length-drop at os))))
-    (λ i l. same i (omega (arith, size)))
-  where
-    o : ℕ → ℕ
-    o = λ i. getD os i 0
-
-    size : length (heldOctets f o at n) ≡ n
-    size = length-held f o at n
-
-    kept : (i : ℕ) → i < at + n → heldOctet f o i ≡ getD os i 0
-    kept i l = either (f (i / blockSize)) (λ e. rw e) (λ e. rw e (sym (z i l e)))
-
-    same : (i : ℕ) → i < n → getD (heldOctets f o at n) i 0 ≡ getD (take n (drop at os)) i 0
-    same i l = held-at f o at n i l ∙ kept (at + i) (omega arith) ∙ sym (getD-take n (drop at os) i 0 l ∙ getD-drop at os i 0)
+    held-part f (λ i. getD os i 0) os at n h (λ i l k. either (f (i / blockSize)) (λ e. rw e) (λ e. rw e (sym (z i k e))))
 
 -- parts of two lists with the same octets
 part-same : (x y : List ℕ) (at n : ℕ) → at + n ≤ length x → at + n ≤ length y → ((i : ℕ) → at ≤ i → i < at + n → getD x i 0 ≡ getD y i 0)

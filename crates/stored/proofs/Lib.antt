@@ -1,4 +1,5 @@
 pub mod HeldOctets
+pub mod HeldStore
 pub mod ReadingBack
 pub mod RestoredBack
 pub mod StoreReading

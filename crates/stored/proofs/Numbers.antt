@@ -11,15 +11,16 @@ use lib.Dec.{eqb}
 use lib.ListN.{length, getD, take, drop, length-drop}
 use lib.Seq.{take-all, length-take-le}
 use Rattle.addresses.specs.Octets.{numberAt}
+use Rattle.addresses.specs.declared.RadioAddress.{RadioAddress}
 use Rattle.foundation.specs.Order.{firstFailed, all}
-use Rattle.foundation.proofs.Tests.{last, not-true, choose, same-test}
+use Rattle.foundation.proofs.Tests.{either, last, not-true, choose, same-test}
 use Rattle.checks.specs.Checks.{headerGood}
-use Rattle.foundation.proofs.Order.{all-nil, all-cons, all-at, all-fails, all-append, passed, alike-first}
+use Rattle.foundation.proofs.Order.{all-nil, all-cons, all-at, all-fails, all-append, alike-first}
 use Rattle.packets.proofs.Octets.{Octets}
 use Rattle.receiver_state.specs.Receiver.{storeSize, receiverGood}
 use Rattle.receiver_state.specs.declared.Receiver.{Receiver}
 use Rattle.stored.specs.Stored.{storedBlock, zerosAt, zeroPart, saved, saveNumber, afterSave, block0, block1, receiverIn, storeIn, zerosFrom, clear, layoutTests, restoreTests, restoreNumber, restored, afterRestore}
-use Rattle.stored.specs.Parts.{usable, marked, messageChecked, layoutKept}
+use Rattle.stored.specs.Parts.{usable, marked, messageChecked, layoutKept, blocksNumber}
 use Rattle.stored.specs.declared.restoring.Restored.{Restored}
 
 -- ---- receivers and sizes
@@ -96,6 +97,30 @@ module _ (a b : List ℕ) (rx : Receiver) (store : List ℕ) where
   unfolding layoutTests layoutKept marked messageChecked all
   layout-first us = alike-first 18 (marks ++ others) us ∙ ap (λ (t : Bool). cond t (firstFailed us) 18) (all-append marks others)
 
+-- ---- the numbers of two blocks, in their order
+
+module _ (own : RadioAddress) (a b : List ℕ) (rx : Receiver) (store : List ℕ) where
+  abbrev number : ℕ
+  number = blocksNumber own a b rx store
+
+  pub check0-bad : headerGood 0 a ≡ false → 17 ≡ number
+  unfolding blocksNumber firstFailed
+  check0-bad h = sym (rw h)
+
+  module _ (h0 : headerGood 0 a ≡ true) where
+    pub check1-bad : headerGood 0 b ≡ false → 17 ≡ number
+    unfolding blocksNumber firstFailed
+    check1-bad h = sym (rw (h0, h))
+
+    module _ (h1 : headerGood 0 b ≡ true) where
+      pub layout-broken : layoutKept a b rx store ≡ false → 18 ≡ number
+      unfolding blocksNumber firstFailed
+      layout-broken k = sym (rw (h0, h1, k))
+
+      pub by-address : layoutKept a b rx store ≡ true → cond (eqb (rx .own .0) (own .0)) 0 19 ≡ number
+      unfolding blocksNumber firstFailed
+      by-address k = sym (rw (h0, h1, k))
+
 -- ---- restoring
 
 -- the two blocks of a form
@@ -116,14 +141,10 @@ block-sizes form e = (
 )
 
 module _ (rx : Receiver) (form store : List ℕ) where
-  -- the tests, with those of one number as one
-  abbrev steps : List ℕ → List ℕ → Receiver → List ℕ → List (Bool × ℕ)
-  steps a b r os =
-      (usable rx (length store) (length form), 1) ∷ (headerGood 0 a, 17) ∷ (headerGood 0 b, 17) ∷ (layoutKept a b r os, 18)
-      ∷ (eqb (r .own .0) (rx .own .0), 19) ∷ []
-
-  number-steps : restoreNumber rx form store ≡ firstFailed (steps (block0 form) (block1 form) (receiverIn (block0 form)) (storeIn (block0 form) (block1 form)))
-  unfolding restoreNumber restoreTests firstFailed
+  -- those of one number are one
+  number-steps : restoreNumber rx form store
+      ≡ choose (usable rx (length store) (length form)) (blocksNumber (rx .own) (block0 form) (block1 form) (receiverIn (block0 form)) (storeIn (block0 form) (block1 form))) 1
+  unfolding restoreNumber restoreTests blocksNumber firstFailed
   number-steps =
       let a = block0 form in
       let b = block1 form in
@@ -131,52 +152,28 @@ module _ (rx : Receiver) (form store : List ℕ) where
       ((headerGood 0 a, 17) ∷ (headerGood 0 b, 17) ∷ layoutTests a b (receiverIn a) (storeIn a b) ++ (eqb (receiverIn a .own .0) (rx .own .0), 19) ∷ [])
       ∙ rw (layout-first a b (receiverIn a) (storeIn a b))
 
-  pub sizes : restoreNumber rx form store ≡ 0 → (length store ≡ storeSize) × (length form ≡ 2 * storedBlock)
-  sizes e = usable-sizes rx (length store) (length form) (passed (usable rx (length store) (length form)) 0 _ (sym number-steps ∙ e) .0)
-
   pub restored-refused : (n : ℕ) → n ≡ restoreNumber rx form store → n ≢ 0
       → (_≡_ {A = Restored} (record { number = n; receiver = rx }) (restored rx form store)) × (store ≡ afterRestore rx form store)
   unfolding restored afterRestore
   restored-refused n e d = let f : eqb (restoreNumber rx form store) 0 ≡ false = ne-eqb _ _ (λ z. d (e ∙ z)) in (rw (f, ← e), rw f)
 
-  -- the numbers in their order
   pub number-1 : usable rx (length store) (length form) ≡ false → 1 ≡ restoreNumber rx form store
-  unfolding firstFailed
   number-1 u = sym (number-steps ∙ rw u)
 
-  module _ (u : usable rx (length store) (length form) ≡ true) (a b : List ℕ) (is-a : a ≡ block0 form) (is-b : b ≡ block1 form) where
-    -- the tests behind that
-    checks : restoreNumber rx form store ≡ firstFailed (drop 1 (steps a b (receiverIn a) (storeIn a b)))
-    unfolding firstFailed
-    checks = number-steps ∙ rw (u, is-a, is-b)
+  pub sizes : restoreNumber rx form store ≡ 0 → (length store ≡ storeSize) × (length form ≡ 2 * storedBlock)
+  sizes e =
+      either (usable rx (length store) (length form)) (usable-sizes rx (length store) (length form))
+      (λ u. let z : _≡_ {A = ℕ} 1 0 = number-1 u ∙ e in absurd (omega arith))
 
-    pub check0-bad : headerGood 0 a ≡ false → 17 ≡ restoreNumber rx form store
-    unfolding firstFailed
-    check0-bad h = sym (checks ∙ rw h)
+  module _ (u : usable rx (length store) (length form) ≡ true) (a b : List ℕ) (r : Receiver) (os : List ℕ)
+      (is-a : a ≡ block0 form) (is-b : b ≡ block1 form) (is-r : r ≡ receiverIn a) (is-os : os ≡ storeIn a b) where
+    pub number-read : (n : ℕ) → n ≡ blocksNumber (rx .own) a b r os → n ≡ restoreNumber rx form store
+    number-read n e = e ∙ sym (number-steps ∙ rw (u, is-r, is-os, is-a, is-b))
 
-    module _ (h0 : headerGood 0 a ≡ true) where
-      pub check1-bad : headerGood 0 b ≡ false → 17 ≡ restoreNumber rx form store
-      unfolding firstFailed
-      check1-bad h = sym (checks ∙ rw (h0, h))
-
-      module _ (h1 : headerGood 0 b ≡ true) (r : Receiver) (os : List ℕ) (is-r : r ≡ receiverIn a) (is-os : os ≡ storeIn a b) where
-        rules : restoreNumber rx form store ≡ firstFailed (drop 3 (steps a b r os))
-        unfolding firstFailed
-        rules = checks ∙ rw (h0, h1, is-r, is-os)
-
-        pub layout-broken : layoutKept a b r os ≡ false → 18 ≡ restoreNumber rx form store
-        unfolding firstFailed
-        layout-broken k = sym (rules ∙ rw k)
-
-        pub by-address : layoutKept a b r os ≡ true → cond (eqb (r .own .0) (rx .own .0)) 0 19 ≡ restoreNumber rx form store
-        unfolding firstFailed
-        by-address k = sym (rules ∙ rw k)
-
-  pub restored-taken : restoreNumber rx form store ≡ 0 → (a b : List ℕ) (r : Receiver) (os : List ℕ) → a ≡ block0 form → b ≡ block1 form
-      → r ≡ receiverIn a → os ≡ storeIn a b
-      → (_≡_ {A = Restored} (record { number = 0; receiver = r }) (restored rx form store)) × (os ≡ afterRestore rx form store)
-  unfolding restored afterRestore
-  restored-taken e a b r os is-a is-b is-r is-os = (rw (e, is-r, is-a), rw (e, is-os, is-a, is-b))
+    pub restored-taken : restoreNumber rx form store ≡ 0
+        → (_≡_ {A = Restored} (record { number = 0; receiver = r }) (restored rx form store)) × (os ≡ afterRestore rx form store)
+    unfolding restored afterRestore
+    restored-taken e = (rw (e, is-r, is-a), rw (e, is-os, is-a, is-b))
 
 -- ---- saving
 

@@ -10,13 +10,14 @@ use Rattle.addresses.specs.Octets.{threeOctets}
 use Rattle.foundation.specs.Bits.{tabulate}
 use Rattle.foundation.proofs.Runs.{tabulated}
 use Rattle.transactions.specs.Flags.{flagOctetCount}
-use Rattle.receiver_state.specs.Receiver.{held}
+use Rattle.receiver_state.specs.Receiver.{storeSize, held}
 use Rattle.receiver_state.specs.declared.Receiver.{Receiver}
 use Rattle.stored.specs.Stored.{storedBlock, checkedSize, firstPart, secondPart, storeAt0, storeAt1, zerosAt, withStoredCheck, heldOctets, head0, body0, storedForm, saved}
-use Rattle.foundation.specs.Octets.{over, put}
+use Rattle.foundation.specs.Octets.{put}
 use Rattle.stored.proofs.HeldOctets.{length-held}
+use Rattle.stored.proofs.HeldStore.{first-part, second-part}
 use Rattle.stored.proofs.ReadingBack.{checkOctets, length-checked, written0, written1, fields, head1, zeros, length-zeros, head, length-head1, length-head, written1-parts, length-written1, length-written0}
-use Rattle.foundation.proofs.Copying.{Grown, grown, grown-none, grown-put, grown-all}
+use Rattle.foundation.proofs.Copying.{Grown, grown-none, grown-put, grown-all}
 
 -- the head, octet by octet
 pub head-is : (rx : Receiver) (s0 s1 : ℕ) (os ts : List ℕ) → length (rx .flags) ≡ flagOctetCount → os ≡ threeOctets (rx .own .0)
@@ -73,19 +74,22 @@ module _ (rx : Receiver) (store : List ℕ) (s0 s1 : ℕ) (eight : length (rx .f
   unfolding body0
   first-is = refl
 
-  module _ (d d1 d2 d3 d4 d5 d6 d7 : List ℕ) (room : length d ≡ 2 * storedBlock)
-      (e1 : d1 ≡ put d 0 (head rx s0 s1))
-      (e2 : d2 ≡ over d1 storeAt0 (part 0 firstPart))
+  -- h is the head, m has the held octets
+  module _ (h m : List ℕ) (is-h : h ≡ head rx s0 s1) (is-m : m ≡ part 0 storeSize) (d d1 d2 d3 d4 d5 d6 d7 : List ℕ) (room : length d ≡ 2 * storedBlock)
+      (e1 : d1 ≡ put d 0 h)
+      (e2 : d2 ≡ put d1 storeAt0 (take firstPart m))
       (e3 : d3 ≡ put d2 checkedSize (checkOctets (take checkedSize (drop 0 d2))))
       (e4 : d4 ≡ put d3 storedBlock (head1 s0 s1))
-      (e5 : d5 ≡ over d4 (storedBlock + storeAt1) (part firstPart secondPart))
+      (e5 : d5 ≡ put d4 (storedBlock + storeAt1) (take secondPart (drop firstPart m)))
       (e6 : d6 ≡ put d5 (storedBlock + zerosAt) zeros)
       (e7 : d7 ≡ put d6 (storedBlock + checkedSize) (checkOctets (take checkedSize (drop storedBlock d6)))) where
     g1 : Grown (head rx s0 s1) d d1
-    g1 = e1 ∙ grown-put d [] (head rx s0 s1) d 0 refl (omega (arith, length-head rx s0 s1 eight)) (grown-none d)
+    g1 = e1 ∙ ap (put d 0) is-h ∙ grown-put d [] (head rx s0 s1) d 0 refl (omega (arith, length-head rx s0 s1 eight)) (grown-none d)
 
     g2 : Grown first d d2
-    g2 = rw first-is at (grown (head rx s0 s1) (part 0 firstPart) d d1 d2 storeAt0 (length-head rx s0 s1 eight) (omega (arith, length-part 0 firstPart)) g1 e2)
+    g2 =
+        e2 ∙ ap (put d1 storeAt0) (first-part (held rx) store m is-m)
+        ∙ rw first-is at (grown-put d (head rx s0 s1) (part 0 firstPart) d1 storeAt0 (length-head rx s0 s1 eight) (omega (arith, length-part 0 firstPart)) g1)
 
     g3 : Grown block d d3
     g3 = checked-grown [] first d d2 d3 0 checkedSize refl (length-written0 rx octet s0 s1 eight) (omega arith) g2 e3
@@ -97,7 +101,9 @@ module _ (rx : Receiver) (store : List ℕ) (s0 s1 : ℕ) (eight : length (rx .f
     l4 = length-append block (head1 s0 s1) ∙ omega (arith, length-block, length-head1 rx s0 s1)
 
     g5 : Grown (block ++ head1 s0 s1 ++ part firstPart secondPart) d d5
-    g5 = grown (block ++ head1 s0 s1) (part firstPart secondPart) d d4 d5 (storedBlock + storeAt1) l4 (omega (arith, length-part firstPart secondPart)) g4 e5
+    g5 =
+        e5 ∙ ap (put d4 (storedBlock + storeAt1)) (second-part (held rx) store m is-m)
+        ∙ grown-put d (block ++ head1 s0 s1) (part firstPart secondPart) d4 (storedBlock + storeAt1) l4 (omega (arith, length-part firstPart secondPart)) g4
 
     l5 : length (block ++ head1 s0 s1 ++ part firstPart secondPart) ≡ storedBlock + zerosAt
     l5 = length-append (block ++ head1 s0 s1) (part firstPart secondPart) ∙ omega (arith, l4, length-part firstPart secondPart)

@@ -1,12 +1,14 @@
--- What a stored form holds, octet by octet, and its rules tested from the last octet down.
+-- What a stored form holds, octet by octet, and octets compared.
 -- Assumes nothing.
-use mathlib.Core.Path.{_≡_, refl, _∙_}
+use mathlib.Core.Path.{_≡_, refl, sym, ap, ap₂, _∙_}
 use mathlib.Core.Bool.{Bool, true, false, cond}
 use mathlib.Core.List.{List}
 use mathlib.Core.Logic.{_≢_}
-use Prim.Native.Nat.{ℕ, _+_, _-_, _/_, _≤_, _<_}
+use Prim.Native.Nat.{ℕ, _+_, _/_, _≤_, _<_}
+use native.Mathlib.Nat.{zero-add}
+use native.Mathlib.Numerals.{add-one}
 use native.Mathlib.Omega.{arith}
-use borrow.Author.Tests.{eq-eqb, ne-eqb}
+use borrow.Author.Tests.{eq-eqb, ne-eqb, eqb-true}
 use lib.Dec.{eqb}
 use lib.ListN.{length, getD, take, drop, replicate, length-append, length-drop}
 use lib.Seq.{length-take-le, getD-take, getD-drop}
@@ -14,15 +16,17 @@ use Rattle.addresses.specs.Octets.{addressAt}
 use Rattle.addresses.specs.declared.RadioAddress.{RadioAddress}
 use Rattle.foundation.specs.Bits.{tabulate}
 use Rattle.foundation.proofs.Runs.{tabulated}
-use Rattle.foundation.specs.Order.{every}
 use Rattle.foundation.specs.Octets.{put}
 use Rattle.foundation.proofs.Copying.{put-all, put-both}
+use Rattle.foundation.proofs.Filling.{getD-zeros}
+use Rattle.foundation.proofs.Tests.{every-ext, same-test}
 use Rattle.messages.specs.Messages.{blockSize}
-use Rattle.transactions.specs.Flags.{flagOctetCount, flagged}
-use Rattle.foundation.proofs.Order.{every-stops, every-goes}
-use Rattle.receiver_state.specs.Receiver.{storeSize}
+use Rattle.transactions.specs.Flags.{flagOctetCount}
+use Rattle.receiver_state.specs.Receiver.{storeSize, held}
 use Rattle.receiver_state.specs.declared.Receiver.{Receiver}
-use Rattle.stored.specs.Stored.{storedBlock, firstPart, secondPart, storeAt0, storeAt1, receiverIn, storeIn, zerosFrom, clear}
+use Rattle.stored.specs.Stored.{storedBlock, firstPart, secondPart, storeAt0, storeAt1, heldOctets, receiverIn, storeIn, zerosFrom, clear}
+use Rattle.stored.specs.Parts.{sameOctets}
+use Rattle.stored.proofs.HeldOctets.{length-held, held-at}
 
 -- the octets of a part
 pub part-tabulated : (os : List ℕ) (at n : ℕ) → at + n ≤ length os → take n (drop at os) ≡ tabulate n (λ i. getD os (at + i) 0)
@@ -67,50 +71,43 @@ module _ (a b : List ℕ) (size-a : length a ≡ storedBlock) (size-b : length b
   store-is d m e p =
       p ∙ put-both d (part0 a) (part1 b) firstPart (length-part0 a size-a) (omega (arith, length-part1 b size-b))
 
--- ---- octets that are zero
+-- ---- octets compared
 
-module _ (os : List ℕ) (at : ℕ) where
-  abbrev isZero : ℕ → Bool
-  isZero i = eqb (getD os (at + i) 0) 0
+module _ (a b : List ℕ) (i : ℕ) where
+  pub same-stop : getD a i 0 ≢ getD b i 0 → false ≡ sameOctets a b (i + 1)
+  unfolding sameOctets
+  same-stop e = sym (rw (add-one i, ne-eqb _ _ e))
 
-  pub zeros-none : zerosFrom os at 0 ≡ true
-  unfolding zerosFrom
-  zeros-none = refl
+  pub same-go : getD a i 0 ≡ getD b i 0 → sameOctets a b i ≡ sameOctets a b (i + 1)
+  unfolding sameOctets
+  same-go e = sym (rw (add-one i, eq-eqb _ _ e))
 
-  module _ (i : ℕ) (h : 0 < i) where
-    pub zeros-stop : getD os (at + (i - 1)) 0 ≢ 0 → zerosFrom os at i ≡ false
-    unfolding zerosFrom
-    zeros-stop e = every-stops isZero i h (ne-eqb _ _ e)
+-- octets that are zero
+pub zeros-same : (os : List ℕ) (at n : ℕ) → at + n ≤ length os
+    → sameOctets (take n (drop at os)) (replicate n 0) (length (take n (drop at os))) ≡ zerosFrom os at n
+unfolding sameOctets zerosFrom
+zeros-same os at n room =
+    rw (length-take-le n (drop at os) (omega (arith, length-drop at os)))
+    (every-ext n (λ i. eqb (getD (take n (drop at os)) i 0) (getD (replicate n 0) i 0)) (λ i. eqb (getD os (at + i) 0) 0)
+    (λ i h. ap₂ eqb (getD-take n (drop at os) i 0 h ∙ getD-drop at os i 0) (getD-zeros n i)))
 
-    pub zeros-go : getD os (at + (i - 1)) 0 ≡ 0 → zerosFrom os at i ≡ zerosFrom os at (i - 1)
-    unfolding zerosFrom
-    zeros-go e = every-goes isZero i h (eq-eqb _ _ e)
+-- an octet, or 0 in its place, compared with it
+compared : (t : Bool) (x : ℕ) → eqb (cond t x 0) x ≡ cond t true (eqb x 0)
+compared true x = eq-eqb x x refl
+compared false x = same-test (eqb 0 x) (eqb x 0) (λ e. eq-eqb x 0 (sym (eqb-true 0 x e))) (λ e. eq-eqb 0 x (sym (eqb-true x 0 e)))
 
--- of the first n octets of a store those of blocks without a flag are zero
-unfoldable pub clearBy : List ℕ → List ℕ → ℕ → Bool
-clearBy flags store n = every n (λ i. cond (flagged flags (i / blockSize)) true (eqb (getD store i 0) 0))
+-- the octets of blocks not held are zero where the held octets are all
+module _ (rx : Receiver) (store : List ℕ) (n : ℕ) where
+  abbrev octets : List ℕ
+  octets = heldOctets (held rx) (λ i. getD store i 0) 0 n
 
-pub clear-by : (rx : Receiver) (store : List ℕ) (n : ℕ) → clearBy (rx .flags) store n ≡ clear rx store n
-unfolding clearBy clear
-clear-by rx store n = refl
+  octet : (i : ℕ) → i < n → eqb (getD octets i 0) (getD store i 0) ≡ cond (held rx (i / blockSize)) true (eqb (getD store i 0) 0)
+  octet i h =
+      ap (λ (x : ℕ). eqb x (getD store i 0)) (held-at (held rx) (λ i. getD store i 0) 0 n i h ∙ rw (zero-add i))
+      ∙ compared (held rx (i / blockSize)) (getD store i 0)
 
-module _ (flags store : List ℕ) where
-  abbrev isClear : ℕ → Bool
-  isClear i = cond (flagged flags (i / blockSize)) true (eqb (getD store i 0) 0)
-
-  pub clear-none : clearBy flags store 0 ≡ true
-  unfolding clearBy
-  clear-none = refl
-
-  module _ (i : ℕ) (h : 0 < i) where
-    pub clear-stop : flagged flags ((i - 1) / blockSize) ≡ false → getD store (i - 1) 0 ≢ 0 → clearBy flags store i ≡ false
-    unfolding clearBy
-    clear-stop f e = every-stops isClear i h (rw f (ne-eqb _ _ e))
-
-    pub clear-go : flagged flags ((i - 1) / blockSize) ≡ false → getD store (i - 1) 0 ≡ 0 → clearBy flags store i ≡ clearBy flags store (i - 1)
-    unfolding clearBy
-    clear-go f e = every-goes isClear i h (rw f (eq-eqb _ _ e))
-
-    pub clear-held : flagged flags ((i - 1) / blockSize) ≡ true → clearBy flags store i ≡ clearBy flags store (i - 1)
-    unfolding clearBy
-    clear-held f = every-goes isClear i h (rw f)
+  pub clear-same : (m : List ℕ) → m ≡ octets → sameOctets m store (length m) ≡ clear rx store n
+  unfolding sameOctets clear
+  clear-same m e =
+      rw (e, length-held (held rx) (λ i. getD store i 0) 0 n)
+      (every-ext n (λ i. eqb (getD octets i 0) (getD store i 0)) (λ i. cond (held rx (i / blockSize)) true (eqb (getD store i 0) 0)) octet)

@@ -4,9 +4,9 @@ ghost use mathlib.Core.Bool.{true, cond};
 ghost use lib.Dec.{eqb};
 ghost use lib.ListN.{length};
 ghost use Rattle.receiver_state.specs.Receiver.{storeSize, receiverGood};
-ghost use Rattle.stored.specs.Stored.{storedBlock, zerosAt, zeroPart, receiverIn, storeIn, zerosFrom, clear, restoreNumber, restored, afterRestore};
+ghost use Rattle.stored.specs.Stored.{storedBlock, zerosAt, zeroPart, receiverIn, storeIn, zerosFrom, clear, restored, afterRestore};
 ghost use Rattle.stored.specs.Claims.{SavesBack};
-ghost use Rattle.stored.specs.Parts.{marked, messageChecked, layoutKept};
+ghost use Rattle.stored.specs.Parts.{marked, sameOctets, messageChecked, layoutKept, blocksNumber};
 use crate::saving::CHECKED;
 use crate::saving::FIRST_PART;
 use crate::saving::STORE_AT_0;
@@ -78,21 +78,30 @@ fn is_marked(a: &[u8], b: &[u8]) -> bool
     second == 0x101_0000 + stamp
 }
 
+// Whether two runs of octets are the same. There is no early way out, so that many octets are compared at once.
+fn is_same(a: &[u8], b: &[u8]) -> bool
+    requires { ⌜ length (now b) ≡ length (now a) ⌝ }
+    ensures { λ r. ⌜ r ≡ sameOctets (now (a .entry)) (now (b .entry)) (length (now (a .entry))) ⌝ }
+{
+    let mut same = true;
+    let mut i: usize = 0;
+    while i < a.len() {
+        if a[i] != b[i] {
+            same = false;
+        }
+        i += 1;
+    }
+    same
+}
+
 // Whether the octets of blocks not held are zero.
-fn is_clear(rx: Receiver, store: [u8; STORE]) -> bool
-    ensures { λ r. ⌜ r ≡ clear rx store storeSize ⌝ }
+fn is_clear(rx: Receiver, store: &[u8]) -> bool
+    requires { ⌜ length (now store) ≡ storeSize ⌝ }
+    ensures { λ r. ⌜ r ≡ clear rx (now (store .entry)) storeSize ⌝ }
 {
     let flags = rx.flags;
-    let mut i: usize = STORE;
-    while 0 < i {
-        i -= 1;
-        if !transactions::flags::is_set(flags, i / BLOCK) {
-            if store[i] != 0 {
-                return false;
-            }
-        }
-    }
-    true
+    let held = crate::held_store(flags, store);
+    is_same(&held, store)
 }
 
 // Whether the octets behind the store are zero.
@@ -100,20 +109,14 @@ fn ends_in_zeros(b: &[u8]) -> bool
     requires { ⌜ length (now b) ≡ storedBlock ⌝ }
     ensures { λ r. ⌜ r ≡ zerosFrom (now (b .entry)) zerosAt zeroPart ⌝ }
 {
-    let mut i: usize = ZEROS;
-    while 0 < i {
-        i -= 1;
-        if b[ZEROS_AT + i] != 0 {
-            return false;
-        }
-    }
-    true
+    let zeros = [0u8; ZEROS];
+    is_same(&b[ZEROS_AT..CHECKED], &zeros)
 }
 
 // Whether the message check is good, if the transaction is complete.
-fn is_checked(rx: Receiver, store: [u8; STORE]) -> bool
-    requires { ⌜ receiverGood rx ≡ true ⌝ }
-    ensures { λ r. ⌜ r ≡ messageChecked rx store ⌝ }
+fn is_checked(rx: Receiver, store: &[u8]) -> bool
+    requires { ⌜ (receiverGood rx ≡ true) × (length (now store) ≡ storeSize) ⌝ }
+    ensures { λ r. ⌜ r ≡ messageChecked rx (now (store .entry)) ⌝ }
 {
     if rx.phase != 2 {
         return true;
@@ -124,9 +127,9 @@ fn is_checked(rx: Receiver, store: [u8; STORE]) -> bool
 }
 
 // Whether every rule of the layout is kept.
-fn layout_kept(a: &[u8], b: &[u8], rx: Receiver, store: [u8; STORE]) -> bool
-    requires { ⌜ (length (now a) ≡ storedBlock) × (length (now b) ≡ storedBlock) ⌝ }
-    ensures { λ r. ⌜ r ≡ layoutKept (now (a .entry)) (now (b .entry)) rx store ⌝ }
+fn layout_kept(a: &[u8], b: &[u8], rx: Receiver, store: &[u8]) -> bool
+    requires { ⌜ (length (now b) ≡ storedBlock) × (length (now store) ≡ storeSize) ⌝ }
+    ensures { λ r. ⌜ r ≡ layoutKept (now (a .entry)) (now (b .entry)) rx (now (store .entry)) ⌝ }
 {
     if !is_marked(a, b) {
         return false;
@@ -155,26 +158,21 @@ fn address_number(own: RadioAddress, stored: RadioAddress) -> u8
     0
 }
 
-// The number of a stored form: 1, 17, 18, 19, or 0 for none.
-fn number_of(rx: Receiver, form: &[u8], store: &[u8]) -> u8
-    ensures { λ r. ⌜ r ≡ restoreNumber rx (now (form .entry)) (now (store .entry)) ⌝ }
+// The number of two blocks and what was read in them: 17, 18, 19, or 0 for none.
+fn number_of(own: RadioAddress, a: &[u8], b: &[u8], read: Receiver, store: &[u8]) -> u8
+    requires { ⌜ (length (now b) ≡ storedBlock) × (length (now store) ≡ storeSize) ⌝ }
+    ensures { λ r. ⌜ r ≡ blocksNumber own (now (a .entry)) (now (b .entry)) read (now (store .entry)) ⌝ }
 {
-    if !crate::usable(rx, store.len(), form.len()) {
-        return 1;
-    }
-    let a = &form[..STORED_BLOCK];
-    let b = &form[STORED_BLOCK..];
     if !checks::header_good(0, a) {
         return 17;
     }
     if !checks::header_good(0, b) {
         return 17;
     }
-    let read = receiver_in(a);
-    if !layout_kept(a, b, read, store_in(a, b)) {
+    if !layout_kept(a, b, read, store) {
         return 18;
     }
-    address_number(rx.own, read.own)
+    address_number(own, read.own)
 }
 
 // Restores a receiver and its store from any octets; a refusal leaves both as they were.
@@ -183,10 +181,9 @@ pub fn restore(rx: Receiver, form: &[u8], store: &mut [u8]) -> Restored
         × (now (store .exit) ≡ afterRestore rx (now (form .entry)) (now (store .entry)))
         × SavesBack rx (now (form .entry)) (now (store .entry)) ⌝ }
 {
-    let number = number_of(rx, form, store);
-    if number != 0 {
+    if !crate::usable(rx, store.len(), form.len()) {
         return Restored {
-            number,
+            number: 1,
             receiver: rx,
         };
     }
@@ -194,6 +191,13 @@ pub fn restore(rx: Receiver, form: &[u8], store: &mut [u8]) -> Restored
     let b = &form[STORED_BLOCK..];
     let receiver = receiver_in(a);
     let octets = store_in(a, b);
+    let number = number_of(rx.own, a, b, receiver, &octets);
+    if number != 0 {
+        return Restored {
+            number,
+            receiver: rx,
+        };
+    }
     foundation::octets::put(store, 0, &octets);
     Restored {
         number: 0,

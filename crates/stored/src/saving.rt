@@ -1,16 +1,12 @@
 // Saving a receiver in its stored form.
 ghost use mathlib.Core.Path.{_≡_};
 ghost use mathlib.Core.List.{_∷_, []};
-ghost use mathlib.Core.Bool.{cond};
-ghost use Rattle.messages.specs.Messages.{blockSize};
-ghost use Prim.Native.Nat.{_+_, _/_, _%_, _≤_, _<_};
-ghost use lib.ListN.{length, getD, take, drop};
+ghost use Prim.Native.Nat.{_+_, _/_, _%_, _≤_};
+ghost use lib.ListN.{length, take, drop};
 ghost use Rattle.checks.specs.Checks.{headerCheck};
-ghost use Rattle.transactions.specs.Flags.{flagged};
-ghost use Rattle.stored.specs.Stored.{storedBlock, checkedSize, heldOctets, head0, saveNumber, afterSave};
+ghost use Rattle.stored.specs.Stored.{storedBlock, checkedSize, head0, saveNumber, afterSave};
 ghost use Rattle.stored.specs.Claims.{Savable, Restores};
-ghost use Rattle.foundation.specs.Octets.{over, put};
-use messages::message::BLOCK;
+ghost use Rattle.foundation.specs.Octets.{put};
 use receiver_state::Receiver;
 use receiver_state::STORE;
 
@@ -34,29 +30,6 @@ pub const STORE_AT_1: usize = 4;
 pub const ZEROS_AT: usize = STORE_AT_1 + SECOND_PART;
 
 pub const ZEROS: usize = CHECKED - ZEROS_AT;
-
-// Octet i of the store, 0 where its block is not held.
-fn held_octet(flags: [u8; 8], store: &[u8], i: usize) -> u8
-    requires { ⌜ i < length (now store) ⌝ }
-    ensures { λ r. ⌜ r ≡ cond (flagged flags (i / blockSize)) (getD (now (store .entry)) i 0) 0 ⌝ }
-{
-    if !transactions::flags::is_set(flags, i / BLOCK) {
-        return 0;
-    }
-    store[i]
-}
-
-// n octets of the store from a place on, zero where their block is not held.
-fn held_at(to: &mut [u8], at: usize, flags: [u8; 8], store: &[u8], from: usize, n: usize)
-    requires { ⌜ (at + n ≤ length (now to)) × (from + n ≤ length (now store)) ⌝ }
-    ensures { λ r. ⌜ now (to .exit) ≡ over (now (to .entry)) at (heldOctets (flagged flags) (λ i. getD (now (store .entry)) i 0) from n) ⌝ }
-{
-    let mut i: usize = 0;
-    while i < n {
-        to[at + i] = held_octet(flags, store, from + i);
-        i += 1;
-    }
-}
 
 // The check of the 510 octets of a block, written behind them.
 fn check_at(to: &mut [u8], at: usize)
@@ -115,20 +88,14 @@ pub fn save(rx: Receiver, store: &[u8], s0: u8, s1: u8, form: &mut [u8]) -> u8
         return 1;
     }
     let flags = rx.flags;
+    let held = crate::held_store(flags, store);
     let first = head(rx, s0, s1);
     foundation::octets::put(form, 0, &first);
-    held_at(form, STORE_AT_0, flags, store, 0, FIRST_PART);
+    foundation::octets::put(form, STORE_AT_0, &held[..FIRST_PART]);
     check_at(form, 0);
     let second = [1, 1, s0, s1];
     foundation::octets::put(form, STORED_BLOCK, &second);
-    held_at(
-        form,
-        STORED_BLOCK + STORE_AT_1,
-        flags,
-        store,
-        FIRST_PART,
-        SECOND_PART,
-    );
+    foundation::octets::put(form, STORED_BLOCK + STORE_AT_1, &held[FIRST_PART..]);
     let zeros = [0u8; ZEROS];
     foundation::octets::put(form, STORED_BLOCK + ZEROS_AT, &zeros);
     check_at(form, STORED_BLOCK);

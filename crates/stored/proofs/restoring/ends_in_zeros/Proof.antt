@@ -1,65 +1,38 @@
--- `stored::restoring::ends_in_zeros` meets its contract: behind octet i all are zero.
+-- `stored::restoring::ends_in_zeros` meets its contract.
 -- Assumes nothing.
-use Prim.Native.Nat.{_≤_}
-use mathlib.Core.Path.{_≡_, refl, sym, ap, _∙_}
+use mathlib.Core.Path.{_∙_}
 use native.Mathlib.Omega.{arith}
+use Rattle.stored.specs.Stored.{zerosAt, zeroPart}
+use Rattle.stored.proofs.StoreReading.{zeros-same}
 use borrow.Author.Needs.{needs}
-use Rattle.stored.specs.Stored.{zerosAt, zeroPart, zerosFrom}
-use Rattle.stored.proofs.StoreReading.{zeros-none, zeros-stop, zeros-go}
 use Rattle.stored.proofs.restoring.ends_in_zeros.Statement.{statement}
 use Rattle.stored.proofs.restoring.ends_in_zeros.Tie as tie
 
-abbrev Inv-loop : tie.InvT-loop
-Inv-loop b i₀ i = (i ≤ zeroPart) × (zerosFrom b zerosAt zeroPart ≡ zerosFrom b zerosAt i)
+sub-is-same : tie.Need-sub-is-same
+sub-is-same c = search needs
 
-abbrev μ-loop : tie.MeasureT-loop
-μ-loop b i₀ i = i
+part-is-same-start : tie.Need-part-is-same-start
+part-is-same-start c = search needs
 
-loop-holds : tie.Need-loop-holds Inv-loop μ-loop
-loop-holds c = (omega arith, refl)
+part-is-same-end : tie.Need-part-is-same-end
+part-is-same-end c = search needs
 
-sub-i : tie.Need-sub-i Inv-loop μ-loop
-sub-i c = search needs
+slice-aggregate-is-same : tie.Need-slice-aggregate-is-same
+slice-aggregate-is-same c = search needs
 
-add-if1 : tie.Need-add-if1 Inv-loop μ-loop
-add-if1 c = search needs
+is-same-requires : tie.Need-is-same-requires
+is-same-requires c κs = search needs
 
-shared-slice-read-if1 : tie.Need-shared-slice-read-if1 Inv-loop μ-loop
-shared-slice-read-if1 c = search needs
-
-returns : tie.Need-returns Inv-loop μ-loop
-returns c =
-    let st = c .before .before .before .before in
-    let l = c .before .before .before .loop in
-    sym (l .inv .1 ∙ zeros-stop (st .args .b .now) zerosAt (l .i) (omega arith) (c .if1 .taken))
-
-loop-less : tie.Need-loop-less Inv-loop μ-loop
-loop-less c = search needs
-
-loop-again : tie.Need-loop-again Inv-loop μ-loop
-loop-again c =
-    let st = c .before .before .before .before in
-    let l = c .before .before .before .loop in
-    (omega arith, l .inv .1 ∙ zeros-go (st .args .b .now) zerosAt (l .i) (omega arith) (c .if1 .left))
-
-returns-2 : tie.Need-returns-2 Inv-loop μ-loop
-returns-2 c =
-    let st = c .before .before in
-    let l = c .before .loop in
-    let done : l .i ≡ 0 = omega arith in
-    sym (l .inv .1 ∙ ap (zerosFrom (st .args .b .now) zerosAt) done ∙ zeros-none (st .args .b .now) zerosAt)
+returns : tie.Need-returns
+returns c = c .is-same .ensures ∙ zeros-same (c .before .before .before .before .args .b .now) zerosAt zeroPart (omega arith)
 
 pub ends-in-zeros-spec : {M : Type 1} → statement M
 ends-in-zeros-spec =
     tie.close
     (tie.spec
-    Inv-loop
-    μ-loop
-    loop-holds
-    sub-i
-    add-if1
-    shared-slice-read-if1
-    returns
-    loop-less
-    loop-again
-    returns-2)
+    sub-is-same
+    part-is-same-start
+    part-is-same-end
+    slice-aggregate-is-same
+    is-same-requires
+    returns)

@@ -20,15 +20,11 @@ cast-size c = search needs
 mul-size : tie.Need-mul-size
 mul-size c = search needs
 
-array-share-prefix-store : tie.Need-array-share-prefix-store
-array-share-prefix-store c =
-    let st = c .before .before .before .before in
-    omega (arith, fits (st .args .rx) (st .pre) .1)
-
 slice-aggregate-message-good : tie.Need-slice-aggregate-message-good
 slice-aggregate-message-good c =
-    let st = c .before .before .before .before .before in
-    sym (length-take-le _ _ (omega (arith, fits (st .args .rx) (st .pre) .1)))
+    let k1 = c .before .before .before .before .before .before in
+    let st = k1 in
+    sym (length-take-le _ _ (omega (arith, st .pre .1, fits (st .args .rx) (st .pre .0) .1)))
 
 message-good-requires : tie.Need-message-good-requires
 message-good-requires c κs = search needs
@@ -44,7 +40,6 @@ is-checked-spec =
     returns
     cast-size
     mul-size
-    array-share-prefix-store
     slice-aggregate-message-good
     message-good-requires
     returns-2)

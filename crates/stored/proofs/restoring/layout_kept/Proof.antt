@@ -34,7 +34,7 @@ returns-4 c = rule-broken _ _ _ _ 3 (sym (c .before .ends-in-zeros .ensures) ∙
 is-checked-requires : tie.Need-is-checked-requires
 is-checked-requires c κs =
     let k1 = c .before .before .before .before in
-    sym (k1 .before .is-good .ensures) ∙ not-false _ (k1 .if2 .left)
+    (sym (k1 .before .is-good .ensures) ∙ not-false _ (k1 .if2 .left), search needs)
 
 returns-5 : tie.Need-returns-5
 returns-5 c =
