@@ -6,9 +6,10 @@ use Prim.Native.Nat.{ℕ, zero, suc, _+_, _*_, _-_, _/_, _%_, _^_, _≤_, _<_}
 use native.Mathlib.Omega.{arith}
 use lib.Dec.{lit≤}
 use lib.ListN.{getD}
-use Rattle.foundation.specs.Bits.{Bits, octetBit, valueOf, tabulate, octets}
+use Rattle.foundation.specs.Bits.{Bits, octetBit, valueOf, octets}
 use Rattle.foundation.proofs.Runs.{octetBit-bits, followed-bits, value-lt, value-append, value-part, value-followed, value-from}
 use Rattle.foundation.proofs.OctetWords.{words-octets}
+use Rattle.interleaver.specs.Writing.{fieldOctets}
 use Rattle.bursts.specs.Bursts.{slotBits}
 use Rattle.bursts.specs.Parts.{fieldRun}
 use Rattle.foundation.proofs.RunParts.{value-before, value-after, value-across, value-shifted, value-in-octet, value-last-octet}
@@ -87,7 +88,8 @@ module _ (b : List ℕ) where
 
   -- the octets of its words
   pub field-words : (x y z t : ℕ) → x ≡ valueOf (octetBit b) (8 * 0) 64 → y ≡ valueOf (fieldRun b) 64 64 → z ≡ valueOf (octetBit b) (8 * 24 + 4) 64 → t ≡ valueOf (octetBit b) (8 * 32 + 4) 64
-      → tabulate 25 (λ j. getD (x ∷ y ∷ z ∷ t ∷ []) (j / 8) 0 / 2 ^ (56 - 8 * (j % 8)) % 2 ^ 8) ≡ octets 25 (fieldRun b)
+      → fieldOctets x y z t ≡ octets 25 (fieldRun b)
+  unfolding fieldOctets
   field-words x y z t ex ey ez et = words-octets (fieldRun b) bits (x ∷ y ∷ z ∷ t ∷ []) 25 word
     where
       bits : Bits (fieldRun b)

@@ -101,33 +101,7 @@ fn field_octets(b: &[u8]) -> [u8; 25]
     let y = field_across(b);
     let z = word_across(b, 24);
     let last = word_across(b, 32);
-    [
-        ((x >> 56) % 256) as u8,
-        ((x >> 48) % 256) as u8,
-        ((x >> 40) % 256) as u8,
-        ((x >> 32) % 256) as u8,
-        ((x >> 24) % 256) as u8,
-        ((x >> 16) % 256) as u8,
-        ((x >> 8) % 256) as u8,
-        (x % 256) as u8,
-        ((y >> 56) % 256) as u8,
-        ((y >> 48) % 256) as u8,
-        ((y >> 40) % 256) as u8,
-        ((y >> 32) % 256) as u8,
-        ((y >> 24) % 256) as u8,
-        ((y >> 16) % 256) as u8,
-        ((y >> 8) % 256) as u8,
-        (y % 256) as u8,
-        ((z >> 56) % 256) as u8,
-        ((z >> 48) % 256) as u8,
-        ((z >> 40) % 256) as u8,
-        ((z >> 32) % 256) as u8,
-        ((z >> 24) % 256) as u8,
-        ((z >> 16) % 256) as u8,
-        ((z >> 8) % 256) as u8,
-        (z % 256) as u8,
-        ((last >> 56) % 256) as u8,
-    ]
+    interleaver::writing::field_of(x, y, z, last)
 }
 
 // What the block field of a burst reads as.

@@ -1,8 +1,8 @@
 -- A remainder by a multiple of a generator has the same remainder by the generator.
 -- Assumes nothing.
-use mathlib.Core.Path.{_≡_, refl, sym, ap, ap₂, _∙_}
+use mathlib.Core.Path.{_≡_, sym, ap, ap₂, _∙_}
 use Prim.Native.Nat.{ℕ, zero, suc, _+_, _*_, _-_, _/_, _%_, _^_, _<_}
-use native.Mathlib.Nat.{zero-mul, one-mul, zero-div, pow-suc, div-eq-of-lt}
+use native.Mathlib.Nat.{zero-mul, one-mul, pow-suc, div-eq-of-lt}
 use native.Mathlib.Omega.{arith}
 use lib.Pow.{pow-pos, shr-shr}
 use lib.Bits.{bitXor, xor-zero-r, xor-shifted}

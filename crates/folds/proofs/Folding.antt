@@ -1,19 +1,19 @@
 -- The folds keep exclusive or, and agree at each single bit with the divisions that they stand for.
 -- Assumes nothing.
-use mathlib.Core.Path.{_≡_, refl, sym, ap, ap₂, _∙_}
+use mathlib.Core.Path.{_≡_, refl, sym, ap₂, _∙_}
 use Prim.Native.Nat.{ℕ, _+_, _*_, _-_, _/_, _%_, _^_, _<_}
 use native.Mathlib.Omega.{arith}
 use lib.Bits.{bitXor}
 use lib.Pow.{high, low}
-use Rattle.foundation.specs.Bits.{bit, digits, zeros, followed}
+use Rattle.foundation.specs.Bits.{digits, zeros, followed}
 use Rattle.polynomials.specs.Words.{up}
 use Rattle.polynomials.specs.Remainder.{reduce, divide, remainder, check}
 use Rattle.foundation.proofs.Xor.{bit-xor}
 use Rattle.foundation.proofs.Runs.{digits-bits, value-whole}
 use Rattle.polynomials.proofs.Division.{divide-ext, divide-xor, divide-split, remainder-xor, remainder-short}
 use Rattle.polynomials.proofs.Check.{check-ext, check-xor}
-use Rattle.polynomials.proofs.Linear.{Linear, linear-shr, linear-mod, linear-shl, linear-then, linear-xor, linear-up, linear-same}
-use Rattle.folds.specs.Folds.{headerGenerator, headerFourth, blockGenerator, spread, again, blockDown, blockEntered, blockFolded, blockHalved, headerDown, headerTimes, headerFolded, headerHalved}
+use Rattle.polynomials.proofs.Linear.{Linear, linear-shr, linear-mod, linear-then, linear-xor, linear-up, linear-same}
+use Rattle.folds.specs.Folds.{headerGenerator, headerFourth, blockGenerator, spread, again, blockEntered, blockHalved, headerTimes, headerHalved}
 
 -- ---- remainders and checks of the digits of a number
 

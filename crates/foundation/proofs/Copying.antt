@@ -1,13 +1,13 @@
 -- Octets written over a list, one at a time and one part behind the other.
 -- Assumes nothing.
-use mathlib.Core.Path.{_≡_, refl, sym, ap, _∙_}
+use mathlib.Core.Path.{_≡_, refl, sym, ap, ap₂, _∙_}
 use mathlib.Core.List.{List, [], _++_, append-nil, append-assoc}
 use Prim.Native.Nat.{ℕ, _+_, _-_, _≤_, _<_, min}
 use native.Mathlib.Decide.{decLt}
 use native.Mathlib.Numerals.{add-one}
 use native.Mathlib.Omega.{arith}
 use lib.Dec.{leb}
-use lib.ListN.{length, getD, take, drop, set, length-append, length-take, length-drop, drop-of-length-le}
+use lib.ListN.{length, getD, take, drop, set, length-append, length-take, length-drop, drop-of-length-le, take-append-drop}
 use lib.Seq.{paste, paste-zero, paste-suc, length-paste, take-all, take-length, take-at, drop-drop, drop-append-add}
 use borrow.Author.Tests.{le-leb, lt-leb, leb-true, leb-false}
 use Rattle.foundation.specs.Octets.{over, put}
@@ -52,6 +52,12 @@ module _ (d : List ℕ) (at : ℕ) (s : List ℕ) where
 -- what has been written so far, before the rest of the old octets
 abbrev pub Grown : List ℕ → List ℕ → List ℕ → Type 0
 Grown p d m = m ≡ p ++ drop (length p) d
+
+-- a part that stands behind what was written already
+pub grown-kept : (p s d m : List ℕ) → take (length s) (drop (length p) d) ≡ s → Grown p d m → Grown (p ++ s) d m
+grown-kept p s d m e g =
+    g ∙ ap (λ (l : List ℕ). p ++ l) (sym (take-append-drop (length s) (drop (length p) d)) ∙ ap₂ (λ (x y : List ℕ). x ++ y) e (drop-drop (length s) (length p) d))
+    ∙ sym (append-assoc p s (drop (length p + length s) d)) ∙ ap (λ (n : ℕ). p ++ s ++ drop n d) (sym (length-append p s))
 
 -- a part behind it
 pub grown : (p s d m m′ : List ℕ) (at : ℕ) → length p ≡ at → at + length s ≤ length d → Grown p d m → m′ ≡ over m at s → Grown (p ++ s) d m′

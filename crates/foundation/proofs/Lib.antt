@@ -2,6 +2,7 @@ pub mod Xor
 pub mod Runs
 pub mod RunParts
 pub mod Tests
+pub mod Every
 pub mod Order
 pub mod Filling
 pub mod Replaced

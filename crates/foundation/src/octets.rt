@@ -1,7 +1,7 @@
 // Octets at a place of a slice, read and written for every place: nothing is asked of a caller.
 ghost use mathlib.Core.Path.{_≡_};
-ghost use Prim.Native.Nat.{_+_, _*_, _^_, min};
-ghost use lib.ListN.{getD};
+ghost use Prim.Native.Nat.{_+_, _*_, _^_, _<_, min};
+ghost use lib.ListN.{length, getD};
 ghost use Rattle.foundation.specs.Bits.{octetBit, valueOf};
 ghost use Rattle.foundation.specs.Octets.{put as put·octets};
 
@@ -29,6 +29,23 @@ fn eight(a: u8, b: u8, c: u8, d: u8, e: u8, f: u8, g: u8, h: u8) -> u64
         + (h as u64)
 }
 
+// The octets from i on, fewer than eight of them, and zeros behind them.
+fn short_word(octets: &[u8], i: usize) -> u64
+    requires { ⌜ (i < length (now octets)) × (length (now octets) < i + 8) ⌝ }
+    ensures { λ r. ⌜ r ≡ valueOf (octetBit (now (octets .entry))) (8 * i) 64 ⌝ }
+{
+    eight(
+        octets[i],
+        at(octets, i + 1),
+        at(octets, i + 2),
+        at(octets, i + 3),
+        at(octets, i + 4),
+        at(octets, i + 5),
+        at(octets, i + 6),
+        0,
+    )
+}
+
 // The 64 bits from octet i on; past the end they are zeros.
 pub fn word_at(octets: &[u8], i: usize) -> u64
     ensures { λ r. ⌜ r ≡ valueOf (octetBit (now (octets .entry))) (8 * i) 64 ⌝ }
@@ -38,16 +55,7 @@ pub fn word_at(octets: &[u8], i: usize) -> u64
         return 0;
     }
     if n - i < 8 {
-        return eight(
-            octets[i],
-            at(octets, i + 1),
-            at(octets, i + 2),
-            at(octets, i + 3),
-            at(octets, i + 4),
-            at(octets, i + 5),
-            at(octets, i + 6),
-            0,
-        );
+        return short_word(octets, i);
     }
     eight(
         octets[i],

@@ -8,15 +8,14 @@ use native.Mathlib.Omega.{arith}
 use lib.Bits.{bitXor, xor-shifted}
 use lib.Pow.{high, low}
 use lib.ListN.{getD}
-use Rattle.foundation.specs.Bits.{Bits, bit, digits, zeros, followed, valueOf, tabulate, octets}
-use Rattle.foundation.proofs.Xor.{bit-lt}
+use Rattle.foundation.specs.Bits.{Bits, bit, digits, zeros, valueOf, tabulate, octets}
 use Rattle.foundation.proofs.Runs.{digits-bits, zeros-bits, followed-bits, value-lt, value-ext, value-append, value-part, value-followed, digits-whole, tabulate-ext}
 use Rattle.foundation.proofs.RunParts.{value-last-digits}
 use Rattle.foundation.proofs.OctetWords.{words-octets}
 use Rattle.polynomials.specs.Words.{up}
 use Rattle.polynomials.proofs.Linear.{Linear, linear-shr, linear-shl, linear-mod, linear-field, linear-value, linear-up, linear-then, linear-xor, linear-same}
 use Rattle.interleaver.specs.Lanes.{part, swapped, crossedHigh, crossedLow, within, turnedBy, turnedSquare}
-use Rattle.interleaver.specs.Writing.{plainOf, sentRun, spreadWord, groupsOf, fifteen, fiveRuns}
+use Rattle.interleaver.specs.Writing.{plainOf, sentRun, spreadWord, groupsOf, fifteen, fiveRuns, fieldOctets}
 use Rattle.interleaver.specs.declared.lanes.Square.{Square}
 use Rattle.interleaver.proofs.Turning.{linear-part, with-up, LinearSquare, linear-turned}
 
@@ -239,6 +238,6 @@ module _ (m : List ℕ) where
     word (suc (suc (suc zero))) h = words .3
     word (suc (suc (suc (suc q)))) h = absurd (omega arith)
 
-    pub octets-sent : tabulate 25 (λ j. getD (a ∷ b ∷ c ∷ d ∷ []) (j / 8) 0 / 2 ^ (56 - 8 * (j % 8)) % 2 ^ 8) ≡ octets 25 (sentRun m)
-    unfolding u
+    pub octets-sent : fieldOctets a b c d ≡ octets 25 (sentRun m)
+    unfolding u fieldOctets
     octets-sent = words-octets (sentRun m) sent-bits (a ∷ b ∷ c ∷ d ∷ []) 25 (λ q h. word q (omega arith))

@@ -1,11 +1,11 @@
 -- The steps that turn a square keep exclusive or.
 -- Assumes nothing.
 use mathlib.Core.Path.{refl}
-use Prim.Native.Nat.{ℕ, _*_, _/_, _%_, _^_}
+use Prim.Native.Nat.{ℕ, _/_, _%_, _^_}
 use lib.Bits.{bitXor, bitAnd}
 use Rattle.polynomials.specs.Words.{up}
 use Rattle.polynomials.proofs.Linear.{Linear, linear-shr, linear-mod, linear-field, linear-up, linear-and, linear-then, linear-xor}
-use Rattle.interleaver.specs.Lanes.{part, joint, exchangedBy, swapped, between, crossedHigh, crossedLow, ones, twos, fours, eights, within, turnedBy, turnedSquare}
+use Rattle.interleaver.specs.Lanes.{part, joint, swapped, between, crossedHigh, crossedLow, ones, twos, fours, eights, within, turnedBy, turnedSquare}
 use Rattle.interleaver.specs.declared.lanes.Square.{Square}
 
 -- ---- within a word

@@ -1,13 +1,13 @@
 -- The rows that are read: the words keep exclusive or, and agree with the sent order at each single bit.
 -- Assumes nothing.
 use mathlib.Core.Path.{_≡_, refl, sym, ap, ap₂, _∙_}
-use mathlib.Core.List.{List, [], _∷_}
+use mathlib.Core.List.{List}
 use Prim.Native.Nat.{ℕ, _+_, _*_, _-_, _/_, _%_, _^_, _<_}
 use native.Mathlib.Nat.{mod-lt, zero-lt-suc, div-one}
 use native.Mathlib.Omega.{arith}
 use lib.Bits.{bitXor}
-use lib.ListN.{length, getD}
-use Rattle.foundation.specs.Bits.{Bits, bit, octetBit, valueOf, tabulate}
+use lib.ListN.{getD}
+use Rattle.foundation.specs.Bits.{bit, octetBit, valueOf, tabulate}
 use Rattle.foundation.proofs.Xor.{bit-lt}
 use Rattle.foundation.proofs.Runs.{octetBit-bits, value-lt, value-ext, value-part, digits-whole, tabulated, octet-at}
 use Rattle.polynomials.specs.Words.{up}

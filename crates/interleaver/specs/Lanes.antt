@@ -1,6 +1,6 @@
 -- A square of 16 by 16 bits in four words, a row in each lane of 16 bits, and the steps that turn it.
 -- Assumes nothing.
-use Prim.Native.Nat.{ℕ, _*_, _/_, _%_, _^_}
+use Prim.Native.Nat.{ℕ, _/_, _%_, _^_}
 use lib.Bits.{bitXor, bitAnd}
 use Rattle.polynomials.specs.Words.{up}
 use Rattle.interleaver.specs.declared.lanes.Square.{Square}

@@ -1,6 +1,6 @@
 -- The sent order made: 13 rows of 15 bits in lanes of 13, turned, and put one behind the other.
 -- Assumes nothing.
-use mathlib.Core.List.{List}
+use mathlib.Core.List.{List, [], _∷_}
 use Prim.Native.Nat.{ℕ, zero, suc, _*_, _-_, _/_, _%_, _^_}
 use lib.Bits.{bitXor}
 use lib.ListN.{getD}
@@ -43,3 +43,7 @@ fifteen m = tabulate 13 (λ k. getD m k 0 % 2 ^ 15)
 unfoldable pub fiveRuns : ℕ → ℕ → ℕ → ℕ
 fiveRuns s h x =
     bitXor (bitXor (bitXor (bitXor (up s (h / 2 ^ 48)) (up (s - 15) (x % 2 ^ 16))) (up (s - 30) (part 16 16 x))) (up (s - 45) (part 16 32 x))) (x / 2 ^ (108 - s))
+
+-- the 25 octets of four words: of the last word the highest alone
+unfoldable pub fieldOctets : (a b c d : ℕ) → List ℕ
+fieldOctets a b c d = tabulate 25 (λ j. getD (a ∷ b ∷ c ∷ d ∷ []) (j / 8) 0 / 2 ^ (56 - 8 * (j % 8)) % 2 ^ 8)

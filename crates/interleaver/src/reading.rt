@@ -1,7 +1,7 @@
 // The sent order undone.
 ghost use mathlib.Core.Path.{_≡_};
-ghost use Prim.Native.Nat.{_+_, _*_, _%_};
-ghost use Rattle.foundation.specs.Bits.{octetBit, valueOf, tabulate};
+ghost use Prim.Native.Nat.{_%_};
+ghost use Rattle.foundation.specs.Bits.{tabulate};
 ghost use Rattle.interleaver.specs.Reading.{runsOf, grouped, cutWords, receivedRow};
 use crate::lanes::Square;
 

@@ -2,7 +2,7 @@
 ghost use mathlib.Core.Path.{_≡_};
 ghost use Prim.Native.Nat.{_≤_, _<_};
 ghost use Rattle.foundation.specs.Bits.{octets as octets·bits};
-ghost use Rattle.interleaver.specs.Writing.{sentRun, spreadWord, groupsOf, fifteen, fiveRuns};
+ghost use Rattle.interleaver.specs.Writing.{sentRun, spreadWord, groupsOf, fifteen, fiveRuns, fieldOctets};
 use crate::lanes::Square;
 
 // The 15 bits of each row; higher ones do not count.
@@ -60,15 +60,10 @@ fn five_runs(h: u64, x: u64, s: u64) -> u64
         ^ (x >> (108 - s))
 }
 
-// The 25 octets of 13 rows, column 0 at bit 14; higher bits of a row do not count.
-pub fn octets(m: [u16; 13]) -> [u8; 25]
-    ensures { λ r. ⌜ r ≡ octets·bits 25 (sentRun m) ⌝ }
+// The 25 octets of a field of 64, 64, 64 and 8 bits, the last in the highest of d.
+pub fn field_of(a: u64, b: u64, c: u64, d: u64) -> [u8; 25]
+    ensures { λ r. ⌜ r ≡ fieldOctets a b c d ⌝ }
 {
-    let x = crate::lanes::turned(groups(words(m)));
-    let a = five_runs(x.d, x.c, 48);
-    let b = five_runs(x.c, x.b, 52);
-    let c = five_runs(x.b, x.a, 56);
-    let d = (x.a >> 48) << 60;
     [
         ((a >> 56) % 256) as u8,
         ((a >> 48) % 256) as u8,
@@ -96,4 +91,16 @@ pub fn octets(m: [u16; 13]) -> [u8; 25]
         (c % 256) as u8,
         ((d >> 56) % 256) as u8,
     ]
+}
+
+// The field of 13 rows, column 0 at bit 14; higher bits of a row do not count.
+pub fn octets(m: [u16; 13]) -> [u8; 25]
+    ensures { λ r. ⌜ r ≡ octets·bits 25 (sentRun m) ⌝ }
+{
+    let x = crate::lanes::turned(groups(words(m)));
+    let a = five_runs(x.d, x.c, 48);
+    let b = five_runs(x.c, x.b, 52);
+    let c = five_runs(x.b, x.a, 56);
+    let d = (x.a >> 48) << 60;
+    field_of(a, b, c, d)
 }

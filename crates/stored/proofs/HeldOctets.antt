@@ -1,19 +1,19 @@
 -- Laws of the octets of held blocks.
 -- Assumes nothing.
-use mathlib.Core.Path.{_≡_, refl, sym, ap, subst, _∙_}
+use mathlib.Core.Path.{_≡_, refl, sym, ap, _∙_}
 use mathlib.Core.Bool.{Bool, true, false, cond}
 use mathlib.Core.List.{List, _++_}
 use Prim.Native.Nat.{ℕ, zero, suc, _+_, _*_, _/_, _≤_, _<_}
 use native.Mathlib.Nat.{add-zero, zero-add, suc-add}
 use native.Mathlib.Omega.{arith}
 use borrow.Author.Tests.{eq-eqb, eqb-true}
-use lib.Dec.{T, eqb}
+use lib.Dec.{eqb}
 use lib.ListN.{length, getD, take, drop, length-drop}
 use lib.Seq.{length-take-le, ext-getD, getD-take, getD-drop}
 use Rattle.foundation.specs.Order.{every}
-use Rattle.foundation.proofs.Tests.{every-at, every-true}
+use Rattle.foundation.proofs.Tests.{either, every-true}
+use Rattle.foundation.proofs.Every.{every-held}
 use Rattle.messages.specs.Messages.{blockSize, mostBlocks}
-use Rattle.foundation.proofs.Tests.{either}
 use Rattle.receiver_state.specs.Receiver.{blockAt, storeSize, held}
 use Rattle.receiver_state.specs.declared.Receiver.{Receiver}
 use Rattle.stored.specs.Stored.{heldOctets, clear, zerosFrom}
@@ -79,13 +79,6 @@ part-same x y at n hx hy h =
     same : (i : ℕ) → i < n → getD (take n (drop at x)) i 0 ≡ getD (take n (drop at y)) i 0
     same i l = at-part x i l ∙ h (at + i) (omega arith) (omega arith) ∙ sym (at-part y i l)
 
-holds : (t : Bool) → T t → t ≡ true
-holds true h = refl
-holds false h = absurd h
-
-every-held : (n : ℕ) (f : ℕ → Bool) → every n f ≡ true → (k : ℕ) → k < n → f k ≡ true
-every-held n f e k h = holds (f k) (every-at n f (subst T (sym e) tt) k h)
-
 -- the tests of octets that are zero, and what they say of each
 module _ (os : List ℕ) (at n : ℕ) where
   pub zerosFrom-true : ((i : ℕ) → i < n → getD os (at + i) 0 ≡ 0) → zerosFrom os at n ≡ true
@@ -94,7 +87,7 @@ module _ (os : List ℕ) (at n : ℕ) where
 
   pub zerosFrom-at : zerosFrom os at n ≡ true → (i : ℕ) → i < n → getD os (at + i) 0 ≡ 0
   unfolding zerosFrom
-  zerosFrom-at e i h = eqb-true (getD os (at + i) 0) 0 (every-held n (λ i. eqb (getD os (at + i) 0) 0) e i h)
+  zerosFrom-at e i h = eqb-true (getD os (at + i) 0) 0 (every-held (λ i. eqb (getD os (at + i) 0) 0) n e i h)
 
 module _ (rx : Receiver) (os : List ℕ) where
   pub clear-true : (n : ℕ) → ((i : ℕ) → i < n → held rx (i / blockSize) ≡ false → getD os i 0 ≡ 0) → clear rx os n ≡ true
@@ -107,7 +100,7 @@ module _ (rx : Receiver) (os : List ℕ) where
   unfolding clear
   clear-at n c i h e =
       eqb-true (getD os i 0) 0
-      (rw e at (every-held n (λ i. cond (held rx (i / blockSize)) true (eqb (getD os i 0) 0)) c i h))
+      (rw e at (every-held (λ i. cond (held rx (i / blockSize)) true (eqb (getD os i 0) 0)) n c i h))
 
 module _ (rx : Receiver) (store : List ℕ) where
   pub length-heldStore : length (heldStore rx store) ≡ storeSize
@@ -137,4 +130,4 @@ module _ (rx : Receiver) (store : List ℕ) where
     pub first-kept : (n : ℕ) → n ≤ mostBlocks → every n (held rx) ≡ true → take (blockSize * n) (heldStore rx store) ≡ take (blockSize * n) store
     first-kept n h e =
         part-same (heldStore rx store) store 0 (blockSize * n) (omega (arith, length-heldStore)) (omega arith)
-        (λ i l l′. heldStore-kept i (omega arith) (every-held n (held rx) e (i / blockSize) (omega arith)))
+        (λ i l l′. heldStore-kept i (omega arith) (every-held (held rx) n e (i / blockSize) (omega arith)))

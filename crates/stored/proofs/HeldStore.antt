@@ -1,26 +1,20 @@
 -- The held octets of a store: copied block by block, and in the two parts of a stored form.
 -- Assumes nothing.
-use mathlib.Core.Path.{_≡_, refl, sym, ap, ap₂, _∙_}
+use mathlib.Core.Path.{_≡_, refl, sym, ap, _∙_}
 use mathlib.Core.Bool.{Bool, true, false}
-use mathlib.Core.List.{List, _++_, append-assoc}
+use mathlib.Core.List.{List, _++_}
 use Prim.Native.Nat.{ℕ, _+_, _*_, _-_, _/_, _≤_, _<_}
 use native.Mathlib.Nat.{zero-add}
 use native.Mathlib.Omega.{arith}
-use lib.ListN.{length, getD, take, drop, replicate, length-append, length-drop, length-replicate, take-append-drop}
-use lib.Seq.{take-all, take-at, drop-at, drop-drop}
+use lib.ListN.{length, getD, take, drop, replicate, length-append, length-drop, length-replicate}
+use lib.Seq.{take-all, take-at, drop-at}
 use Rattle.foundation.specs.Octets.{put}
-use Rattle.foundation.proofs.Copying.{Grown, grown-put, grown-all}
+use Rattle.foundation.proofs.Copying.{Grown, grown-kept, grown-put, grown-all}
 use Rattle.foundation.proofs.Filling.{getD-zeros}
 use Rattle.messages.specs.Messages.{blockSize, mostBlocks}
 use Rattle.receiver_state.specs.Receiver.{storeSize}
 use Rattle.stored.specs.Stored.{firstPart, secondPart, heldOctets}
 use Rattle.stored.proofs.HeldOctets.{length-held, held-append, held-part}
-
--- a part that stands behind what was written already
-grown-kept : (p s d m : List ℕ) → take (length s) (drop (length p) d) ≡ s → Grown p d m → Grown (p ++ s) d m
-grown-kept p s d m e g =
-    g ∙ ap (λ (l : List ℕ). p ++ l) (sym (take-append-drop (length s) (drop (length p) d)) ∙ ap₂ (λ (x y : List ℕ). x ++ y) e (drop-drop (length s) (length p) d))
-    ∙ sym (append-assoc p s (drop (length p + length s) d)) ∙ ap (λ (n : ℕ). p ++ s ++ drop n d) (sym (length-append p s))
 
 module _ (f : ℕ → Bool) (store : List ℕ) where
   -- n octets from position `at` on

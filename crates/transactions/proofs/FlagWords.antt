@@ -15,7 +15,7 @@ use Rattle.foundation.specs.Order.{every}
 use Rattle.foundation.proofs.Tests.{last, same-test, every-ext, all-eq}
 use Rattle.transactions.specs.Flags.{flagged, weights}
 use Rattle.transactions.specs.Parts.{wordOf, isBetween, asWanted}
-use Rattle.transactions.proofs.Every.{every-asked}
+use Rattle.foundation.proofs.Every.{every-asked}
 use Rattle.transactions.proofs.FlagOctets.{weights-more, weights-lt, weights-ext, octet-of-flags}
 
 -- ---- the word of a test

@@ -1,6 +1,5 @@
 -- `codes::block_field::lane_remainders` meets its contract.
 -- Assumes nothing.
-use borrow.Author.Needs.{needs}
 use Rattle.codes.proofs.RowWords.{lanes-folded}
 use Rattle.codes.proofs.block_field.lane_remainders.Statement.{statement}
 use Rattle.codes.proofs.block_field.lane_remainders.Tie as tie

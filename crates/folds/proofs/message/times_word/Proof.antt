@@ -1,6 +1,6 @@
 -- `folds::message::times_word` meets its contract.
 -- Assumes nothing.
-use mathlib.Core.Path.{refl, sym, ap, _∙_}
+use mathlib.Core.Path.{sym, ap}
 use mathlib.Core.Bool.{Bool, cond}
 use lib.ListN.{length}
 use borrow.Author.Tests.{eq-eqb, ne-eqb}

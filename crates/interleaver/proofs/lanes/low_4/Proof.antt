@@ -1,6 +1,5 @@
 -- `interleaver::lanes::low_4` meets its contract.
 -- Assumes nothing.
-use borrow.Author.Needs.{needs}
 use mathlib.Core.Path.{refl}
 use Rattle.interleaver.specs.Lanes.{crossedLow}
 use Rattle.interleaver.proofs.lanes.low_4.Statement.{statement}

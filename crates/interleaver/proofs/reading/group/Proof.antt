@@ -1,6 +1,5 @@
 -- `interleaver::reading::group` meets its contract.
 -- Assumes nothing.
-use borrow.Author.Needs.{needs}
 use mathlib.Core.Path.{refl}
 use Rattle.interleaver.specs.Reading.{grouped}
 use Rattle.interleaver.proofs.reading.group.Statement.{statement}

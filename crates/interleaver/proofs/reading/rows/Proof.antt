@@ -1,11 +1,10 @@
 -- `interleaver::reading::rows` meets its contract.
 -- Assumes nothing.
-use mathlib.Core.Path.{_≡_, ap, ap₂, _∙_}
+use mathlib.Core.Path.{ap, ap₂, _∙_}
 use Prim.Native.Nat.{ℕ}
 use native.Mathlib.Omega.{arith}
 use Rattle.interleaver.specs.Lanes.{turnedSquare}
-use Rattle.interleaver.specs.Reading.{runsOf, grouped, cutWords}
-use Rattle.interleaver.specs.declared.lanes.Square.{Square}
+use Rattle.interleaver.specs.Reading.{grouped, cutWords}
 use Rattle.interleaver.proofs.Undone.{cutSquare, rows-read}
 use borrow.Author.Needs.{needs}
 use Rattle.interleaver.proofs.reading.rows.Statement.{statement}

@@ -1,6 +1,5 @@
 -- `interleaver::reading::runs` meets its contract.
 -- Assumes nothing.
-use borrow.Author.Needs.{needs}
 use mathlib.Core.Path.{refl}
 use Rattle.interleaver.specs.Reading.{runsOf}
 use Rattle.interleaver.proofs.reading.runs.Statement.{statement}

@@ -1,6 +1,5 @@
 -- `interleaver::writing::spread` meets its contract.
 -- Assumes nothing.
-use borrow.Author.Needs.{needs}
 use mathlib.Core.Path.{refl}
 use Rattle.interleaver.specs.Writing.{spreadWord}
 use Rattle.interleaver.proofs.writing.spread.Statement.{statement}

@@ -4,7 +4,7 @@ use mathlib.Core.Path.{sym, _∙_}
 use native.Mathlib.Omega.{arith}
 use borrow.Author.Needs.{needs}
 use Rattle.transactions.specs.Flags.{flagCount, flagged}
-use Rattle.transactions.proofs.Every.{every-fails}
+use Rattle.foundation.proofs.Every.{every-fails}
 use Rattle.transactions.proofs.FlagOctets.{flagged-far}
 use Rattle.transactions.proofs.FlagWords.{all-below}
 use Rattle.transactions.proofs.flags.all_below.Statement.{statement}

@@ -11,7 +11,7 @@ use Rattle.foundation.specs.Order.{every}
 use Rattle.foundation.proofs.Order.{every-stops, every-goes}
 use Rattle.transactions.specs.Flags.{flagCount}
 use Rattle.transactions.specs.Parts.{wordCount, asWanted}
-use Rattle.transactions.proofs.Every.{every-runs}
+use Rattle.foundation.proofs.Every.{every-runs}
 use Rattle.transactions.proofs.FlagWords.{word-decides}
 use Rattle.transactions.proofs.flags.every_between.Statement.{statement}
 use Rattle.transactions.proofs.flags.every_between.Tie as tie

@@ -8,8 +8,12 @@ use native.Mathlib.Omega.{arith}
 use native.Mathlib.Decide.{decLt}
 use lib.Dec.{T, ltb}
 use borrow.Author.Tests.{lt-ltb, le-ltb}
 use Rattle.foundation.specs.Order.{every}
 use Rattle.foundation.proofs.Tests.{every-at, every-true, every-ext, not-true}
+
+holds : (t : Bool) → T t → t ≡ true
+holds true h = refl
+holds false h = absurd h
 
 module _ (f : ℕ → Bool) where
   -- the first m, and k more
@@ -38,6 +42,9 @@ module _ (f : ℕ → Bool) where
     where
       whole : n ≡ m + (n - m)
       whole = omega arith
+
+  pub every-held : (n : ℕ) → every n f ≡ true → (i : ℕ) → i < n → f i ≡ true
+  every-held n e i h = holds (f i) (every-at n f (subst T (sym e) tt) i h)
 
   pub every-fails : (n i : ℕ) → i < n → f i ≡ false → every n f ≡ false
   every-fails n i h e = not-true (every n f) (λ t. subst T e (every-at n f (subst T (sym t) tt) i h))
