@@ -1,9 +1,9 @@
 // The checks of headers, blocks and messages, over any octets: eight octets at a time, ten at once, four at a time. What is left of the
 // other two is taken in by a register of 32 bits, in whose high bits a generator of degree n stands without its highest power.
 ghost use mathlib.Core.Path.{_≡_};
-ghost use Prim.Native.Nat.{_+_, _*_, _/_, _%_};
+ghost use Prim.Native.Nat.{_+_, _*_, _/_, _%_, _≤_, _<_};
 ghost use lib.ListN.{length};
-ghost use Rattle.foundation.specs.Bits.{octetBit};
+ghost use Rattle.foundation.specs.Bits.{octetBit, valueOf};
 ghost use Rattle.polynomials.specs.Remainder.{remainder, check};
 ghost use Rattle.folds.specs.Folds.{headerFourth, messageTable};
 ghost use Rattle.checks.specs.Checks.{headerGenerator, headerCheck, blockCheck, messageCheck, lowestFirst, headerGood, blockGood, messageGood};
@@ -14,6 +14,20 @@ const BLOCK: u32 = 0x2C80_0000;
 
 const MESSAGE: u32 = 0x04C1_1DB7;
 
+// The first k octets as a number.
+fn front(octets: &[u8], k: usize) -> u64
+    requires { ⌜ (k < 8) × (k ≤ length (now octets)) ⌝ }
+    ensures { λ r. ⌜ r ≡ valueOf (octetBit (now (octets .entry))) 0 (8 * k) ⌝ }
+{
+    let mut w: u64 = 0;
+    let mut j: usize = 0;
+    while j < k {
+        w = 256 * w + octets[j] as u64;
+        j += 1;
+    }
+    w
+}
+
 // The remainder of the octets by the fourth power of the header's generator. Zeros in front add nothing, so that the first word may be
 // short.
 fn header_words(octets: &[u8]) -> u64
@@ -21,9 +35,19 @@ fn header_words(octets: &[u8]) -> u64
 {
     let n = octets.len();
     let mut i = n % 8;
-    let mut w = (foundation::octets::word_at(octets, 0) >> 8) >> (56 - 8 * i);
+    let mut w = front(octets, i);
     while i < n {
-        w = folds::header::take_word(w, foundation::octets::word_at(octets, i));
+        let word = foundation::octets::eight(
+            octets[i],
+            octets[i + 1],
+            octets[i + 2],
+            octets[i + 3],
+            octets[i + 4],
+            octets[i + 5],
+            octets[i + 6],
+            octets[i + 7],
+        );
+        w = folds::header::take_word(w, word);
         i += 8;
     }
     w

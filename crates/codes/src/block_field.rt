@@ -6,7 +6,7 @@ ghost use Rattle.foundation.specs.Bits.{digits, valueOf, tabulate};
 ghost use Rattle.codes.specs.Hamming.{syndrome, withParity};
 ghost use Rattle.codes.specs.Field.{information, product, writtenField, columnsGood, infoBit, infoOctets, readField};
 ghost use Rattle.codes.specs.Claims.{FieldComesBack};
-ghost use Rattle.codes.specs.Words.{cell, column, matrixRead, Sliced, ColumnsRight, RowRight, RowsRight, LaneRemainders, RowRemainders, Codewords, dataRows};
+ghost use Rattle.codes.specs.Words.{cell, column, matrixRead, Sliced, ColumnsRight, RowRight, RowsRight, LaneRemainders, RowRemainders, NoneLeft, Codewords, dataRows};
 
 // What is read from a block field: number 0 and the information, or the number of the refusal and zeros.
 pub struct BlockField {
@@ -97,6 +97,13 @@ fn row_remainders(m: [u16; 13]) -> [u64; 4]
     ]
 }
 
+// Whether every remainder of the four words is 0.
+fn none_left(s: [u64; 4]) -> bool
+    ensures { λ r. ⌜ (r ≡ true → NoneLeft s) ⌝ }
+{
+    (s[0] | s[1] | s[2] | s[3]) == 0
+}
+
 // A row with one wrong bit put right, by its remainder s. Digit s of the number is the bit that s names, 15 for none.
 fn correct_row(w: u16, s: u64) -> u16
     requires { ⌜ s ≡ syndrome (digits 15 w) 15 ⌝ }
@@ -111,6 +118,9 @@ fn correct_rows(m: [u16; 13]) -> [u16; 13]
     ensures { λ r. ⌜ RowsRight m r ⌝ }
 {
     let s = row_remainders(m);
+    if none_left(s) {
+        return m;
+    }
     let mut out = m;
     for r in 0..13 {
         out[r] = correct_row(out[r], (s[r / 4] >> (16 * (r % 4))) % 16);
@@ -134,8 +144,7 @@ fn is_clean(m: [u16; 13]) -> bool
     if !columns_good(m) {
         return false;
     }
-    let s = row_remainders(m);
-    (s[0] | s[1] | s[2] | s[3]) == 0
+    none_left(row_remainders(m))
 }
 
 // The eleven data bits of a row.

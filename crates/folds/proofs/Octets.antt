@@ -2,12 +2,11 @@
 -- Assumes nothing.
 use mathlib.Core.Path.{_≡_, refl, sym, ap, ap₂, _∙_}
 use mathlib.Core.List.{List}
-use Prim.Native.Nat.{ℕ, _+_, _*_, _-_, _/_, _%_, _^_, _<_}
+use Prim.Native.Nat.{ℕ, _+_, _*_, _/_, _%_, _^_, _<_}
 use native.Mathlib.Nat.{div-one}
 use native.Mathlib.Omega.{arith}
-use lib.Pow.{high, shr-shr}
 use Rattle.foundation.specs.Bits.{Bits, digits, zeros, octetBit, followed, valueOf}
-use Rattle.foundation.proofs.Runs.{octetBit-bits, digits-bits, zeros-bits, followed-bits, value-append, value-lt, value-followed, value-digits, digits-number, digits-whole}
+use Rattle.foundation.proofs.Runs.{octetBit-bits, digits-bits, zeros-bits, followed-bits, value-followed, value-digits, digits-number, digits-whole}
 use Rattle.foundation.proofs.OctetLists.{Octets}
 use Rattle.foundation.proofs.OctetWords.{joined, value-joined}
 use Rattle.polynomials.specs.Remainder.{reduce, divide, remainder, check}
@@ -18,22 +17,8 @@ use Rattle.folds.proofs.Divisors.{check-of}
 -- ---- the header's register
 
 -- it starts with fewer than eight octets
-pub header-first : (os : List ℕ) (i : ℕ) → i < 8 → valueOf (octetBit os) (8 * 0) 64 / 2 ^ 8 / 2 ^ (56 - 8 * i) ≡ remainder 64 headerFourth (octetBit os) (8 * i)
-header-first os i h =
-    shr-shr (valueOf u 0 64) 8 (56 - 8 * i)
-    ∙ ap₂ (λ (x y : ℕ). valueOf u 0 x / 2 ^ y) all behind
-    ∙ ap (λ (x : ℕ). x / 2 ^ (64 - 8 * i)) (value-append u 0 (8 * i) (64 - 8 * i))
-    ∙ high (valueOf u 0 (8 * i)) (64 - 8 * i) (value-lt u (octetBit-bits os) (0 + 8 * i) (64 - 8 * i))
-    ∙ sym (remainder-short 64 headerFourth u (octetBit-bits os) (8 * i) (omega arith))
-  where
-    u : ℕ → ℕ
-    u = octetBit os
-
-    all : 64 ≡ 8 * i + (64 - 8 * i)
-    all = omega arith
-
-    behind : 8 + (56 - 8 * i) ≡ 64 - 8 * i
-    behind = omega arith
+pub header-first : (os : List ℕ) (i : ℕ) → i < 8 → valueOf (octetBit os) 0 (8 * i) ≡ remainder 64 headerFourth (octetBit os) (8 * i)
+header-first os i h = sym (remainder-short 64 headerFourth (octetBit os) (octetBit-bits os) (8 * i) (omega arith))
 
 -- it takes in the word from octet i on
 pub header-more : (os : List ℕ) (i r w : ℕ) → r ≡ remainder 64 headerFourth (octetBit os) (8 * i) → w ≡ valueOf (octetBit os) (8 * i) 64

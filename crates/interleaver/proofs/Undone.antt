@@ -13,8 +13,9 @@ use Rattle.foundation.proofs.Runs.{octetBit-bits, value-lt, value-ext, value-pa
 use Rattle.polynomials.specs.Words.{up}
 use Rattle.polynomials.proofs.Linear.{Linear, linear-field, linear-mod, linear-value, linear-up, linear-then, linear-xor, linear-same}
 use Rattle.interleaver.specs.Lanes.{part, joint, swapped, crossedHigh, crossedLow, within, turnedBy, turnedSquare}
-use Rattle.interleaver.specs.Reading.{lanes, runsOf, grouped, cutWords, receivedRow}
+use Rattle.interleaver.specs.Reading.{fieldWords, lanes, runsOf, grouped, cutWords, receivedRow}
 use Rattle.interleaver.specs.declared.lanes.Square.{Square}
+use Rattle.interleaver.specs.declared.reading.Words.{Words}
 use Rattle.interleaver.proofs.Turning.{linear-part, linear-joint, with-up, LinearSquare, linear-turned}
 use Rattle.interleaver.proofs.Packing.{packed, Rows, packed-row, linear-row, linear-no-rows}
 
@@ -161,11 +162,11 @@ module _ (f : List ℕ) where
       ap₂ (λ (x y : ℕ). runsOf x y c d) (ea ∙ sym (value-part u bits 0 0 64 136)) (eb ∙ sym (value-part u bits 0 64 64 72))
       ∙ ap₂ (λ (x y : ℕ). runsOf (wordA whole) (wordB whole) x y) (ec ∙ sym (value-part u bits 0 128 64 8)) (ed ∙ sym (value-part u bits 0 192 8 0) ∙ ap (λ (x : ℕ). x % 2 ^ 8) (div-one whole))
 
-  pub rows-read : getD f 24 0 < 256 → (a b c d : ℕ) → a ≡ valueOf (octetBit f) 0 64 → b ≡ valueOf (octetBit f) 64 64 → c ≡ valueOf (octetBit f) 128 64 → d ≡ getD f 24 0
-      → cutSquare (turnedSquare (runsOf a b c d)) ≡ tabulate 13 (receivedRow f)
-  unfolding read cutWords u
-  rows-read o a b c d ea eb ec ed =
-      ap (λ (x : Square). cutSquare (turnedSquare x)) (square a b c d ea eb ec (ed ∙ sym (octet-at f 24 o)))
+  pub rows-read : getD f 24 0 < 256 → (w : Words) → w ≡ fieldWords f → cutSquare (turnedSquare (runsOf (w .a) (w .b) (w .c) (w .d))) ≡ tabulate 13 (receivedRow f)
+  unfolding read cutWords fieldWords u
+  rows-read o w e =
+      ap (λ (v : Words). cutSquare (turnedSquare (runsOf (v .a) (v .b) (v .c) (v .d)))) e
+      ∙ ap (λ (x : Square). cutSquare (turnedSquare x)) (square (valueOf u 0 64) (valueOf u 64 64) (valueOf u 128 64) (getD f 24 0) refl refl refl (sym (octet-at f 24 o)))
       ∙ tabulated 13 (receivedRow f) rows refl (λ r h. sym (packed-row rows small r h) ∙ ap (λ (x : ℕ). x / 2 ^ (15 * (12 - r)) % 2 ^ 15) (read-plain whole whole-lt) ∙ row-received r h)
     where
       y : Square

@@ -3,10 +3,16 @@
 use mathlib.Core.List.{List, [], _∷_}
 use Prim.Native.Nat.{ℕ, _+_, _*_, _%_, _^_}
 use lib.Bits.{bitXor}
+use lib.ListN.{getD}
 use Rattle.foundation.specs.Bits.{octetBit, valueOf}
 use Rattle.polynomials.specs.Words.{up}
 use Rattle.interleaver.specs.Lanes.{part, joint}
 use Rattle.interleaver.specs.declared.lanes.Square.{Square}
+use Rattle.interleaver.specs.declared.reading.Words.{Words}
+
+-- 25 octets as 64, 64, 64 and 8 bits
+unfoldable pub fieldWords : List ℕ → Words
+fieldWords f = record { a = valueOf (octetBit f) 0 64; b = valueOf (octetBit f) 64 64; c = valueOf (octetBit f) 128 64; d = getD f 24 0 }
 
 -- four runs in a word
 abbrev pub lanes : ℕ → ℕ → ℕ → ℕ → ℕ

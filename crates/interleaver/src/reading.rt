@@ -1,9 +1,18 @@
 // The sent order undone.
 ghost use mathlib.Core.Path.{_≡_};
-ghost use Prim.Native.Nat.{_%_};
-ghost use Rattle.foundation.specs.Bits.{tabulate};
-ghost use Rattle.interleaver.specs.Reading.{runsOf, grouped, cutWords, receivedRow};
+ghost use Prim.Native.Nat.{_+_, _*_, _≤_};
+ghost use lib.ListN.{length};
+ghost use Rattle.foundation.specs.Bits.{octetBit, valueOf, tabulate};
+ghost use Rattle.interleaver.specs.Reading.{runsOf, grouped, cutWords, fieldWords, receivedRow};
 use crate::lanes::Square;
+
+// A field of 64, 64, 64 and 8 bits.
+struct Words {
+    a: u64,
+    b: u64,
+    c: u64,
+    d: u64,
+}
 
 // The 13 runs of a field of 64, 64, 64 and 8 bits, the last first.
 fn runs(a: u64, b: u64, c: u64, d: u64) -> Square
@@ -57,14 +66,48 @@ fn cut(w: u64, x: u64, y: u64, z: u64) -> [u16; 13]
     ]
 }
 
+// 64 bits of a field.
+fn word(f: &[u8], i: usize) -> u64
+    requires { ⌜ i + 8 ≤ length (now f) ⌝ }
+    ensures { λ r. ⌜ r ≡ valueOf (octetBit (now (f .entry))) (8 * i) 64 ⌝ }
+{
+    foundation::octets::eight(
+        f[i],
+        f[i + 1],
+        f[i + 2],
+        f[i + 3],
+        f[i + 4],
+        f[i + 5],
+        f[i + 6],
+        f[i + 7],
+    )
+}
+
+// The first 25 octets in words; zeros where there are fewer.
+fn in_words(field: &[u8]) -> Words
+    ensures { λ r. ⌜ r ≡ fieldWords (now (field .entry)) ⌝ }
+{
+    if field.len() < 25 {
+        return Words {
+            a: foundation::octets::word_at(field, 0),
+            b: foundation::octets::word_at(field, 8),
+            c: foundation::octets::word_at(field, 16),
+            d: foundation::octets::at(field, 24) as u64,
+        };
+    }
+    Words {
+        a: word(field, 0),
+        b: word(field, 8),
+        c: word(field, 16),
+        d: field[24] as u64,
+    }
+}
+
 // The 13 rows of the first 25 octets, column 0 at bit 14; zeros where there are fewer.
 pub fn rows(field: &[u8]) -> [u16; 13]
     ensures { λ m. ⌜ m ≡ tabulate 13 (receivedRow (now (field .entry))) ⌝ }
 {
-    let a = foundation::octets::word_at(field, 0);
-    let b = foundation::octets::word_at(field, 8);
-    let c = foundation::octets::word_at(field, 16);
-    let d = foundation::octets::at(field, 24) as u64;
-    let y = crate::lanes::turned(runs(a, b, c, d));
+    let w = in_words(field);
+    let y = crate::lanes::turned(runs(w.a, w.b, w.c, w.d));
     cut(group(y.a), group(y.b), group(y.c), group(y.d))
 }

@@ -2,10 +2,12 @@
 -- Assumes nothing.
 use borrow.Author.Needs.{needs}
 use mathlib.Core.Path.{_≡_, ap, _∙_}
-use Prim.Native.Nat.{ℕ, _*_, _-_, _/_, _%_, _^_, _≤_}
+use Prim.Native.Nat.{ℕ, _*_, _-_, _%_, _≤_}
 use native.Mathlib.Omega.{arith}
 use lib.ListN.{length}
 use Rattle.foundation.specs.Bits.{octetBit}
+use Rattle.foundation.proofs.OctetLists.{Octets}
+use Rattle.foundation.proofs.OctetWords.{eight-octets}
 use Rattle.polynomials.specs.Remainder.{remainder}
 use Rattle.folds.specs.Folds.{headerFourth}
 use Rattle.folds.proofs.Octets.{header-first, header-more}
@@ -18,25 +20,61 @@ Inv-loop octets n i₀ w₀ i w = (i ≤ length octets) × ((length octets - i) 
 abbrev μ-loop : tie.MeasureT-loop
 μ-loop octets n i₀ w₀ i w = length octets - i
 
-word-at-requires : tie.Need-word-at-requires Inv-loop μ-loop
-word-at-requires c κs = search needs
-
-mul-w : tie.Need-mul-w Inv-loop μ-loop
-mul-w c = search needs
-
-sub-w : tie.Need-sub-w Inv-loop μ-loop
-sub-w c = search needs
-
-shr-w : tie.Need-shr-w Inv-loop μ-loop
-shr-w c = search needs
+front-requires : tie.Need-front-requires Inv-loop μ-loop
+front-requires c κs = search needs
 
 loop-holds : tie.Need-loop-holds Inv-loop μ-loop
 loop-holds c =
     let os = c .before .before .args .octets .now in
-    (omega arith, omega arith, ap (λ (x : ℕ). x / 2 ^ 8 / 2 ^ (56 - 8 * (length os % 8))) (c .word-at .ensures) ∙ header-first os (length os % 8) (omega arith))
+    (omega arith, omega arith, c .front .ensures ∙ header-first os (length os % 8) (omega arith))
 
-word-at-requires-2 : tie.Need-word-at-requires-2 Inv-loop μ-loop
-word-at-requires-2 c κs = search needs
+shared-slice-read-eight : tie.Need-shared-slice-read-eight Inv-loop μ-loop
+shared-slice-read-eight c = search needs
+
+add-eight : tie.Need-add-eight Inv-loop μ-loop
+add-eight c = search needs
+
+shared-slice-read-eight-2 : tie.Need-shared-slice-read-eight-2 Inv-loop μ-loop
+shared-slice-read-eight-2 c = search needs
+
+add-eight-2 : tie.Need-add-eight-2 Inv-loop μ-loop
+add-eight-2 c = search needs
+
+shared-slice-read-eight-3 : tie.Need-shared-slice-read-eight-3 Inv-loop μ-loop
+shared-slice-read-eight-3 c = search needs
+
+add-eight-3 : tie.Need-add-eight-3 Inv-loop μ-loop
+add-eight-3 c = search needs
+
+shared-slice-read-eight-4 : tie.Need-shared-slice-read-eight-4 Inv-loop μ-loop
+shared-slice-read-eight-4 c = search needs
+
+add-eight-4 : tie.Need-add-eight-4 Inv-loop μ-loop
+add-eight-4 c = search needs
+
+shared-slice-read-eight-5 : tie.Need-shared-slice-read-eight-5 Inv-loop μ-loop
+shared-slice-read-eight-5 c = search needs
+
+add-eight-5 : tie.Need-add-eight-5 Inv-loop μ-loop
+add-eight-5 c = search needs
+
+shared-slice-read-eight-6 : tie.Need-shared-slice-read-eight-6 Inv-loop μ-loop
+shared-slice-read-eight-6 c = search needs
+
+add-eight-6 : tie.Need-add-eight-6 Inv-loop μ-loop
+add-eight-6 c = search needs
+
+shared-slice-read-eight-7 : tie.Need-shared-slice-read-eight-7 Inv-loop μ-loop
+shared-slice-read-eight-7 c = search needs
+
+add-eight-7 : tie.Need-add-eight-7 Inv-loop μ-loop
+add-eight-7 c = search needs
+
+shared-slice-read-eight-8 : tie.Need-shared-slice-read-eight-8 Inv-loop μ-loop
+shared-slice-read-eight-8 c = search needs
+
+eight-requires : tie.Need-eight-requires Inv-loop μ-loop
+eight-requires c κs = search needs
 
 take-word-requires : tie.Need-take-word-requires Inv-loop μ-loop
 take-word-requires c κs = search needs
@@ -49,9 +87,10 @@ loop-less c = search needs
 
 loop-again : tie.Need-loop-again Inv-loop μ-loop
 loop-again c =
-    let os = c .before .before .before .before .before .before .args .octets .now in
-    let t = c .before .before .before .loop in
-    (omega arith, omega arith, c .take-word .ensures ∙ header-more os (t .i) (t .w) (c .before .word-at2 .result) (t .inv .2) (c .before .word-at2 .ensures))
+    let os = c .before .before .before .before .before .before .before .before .before .before .before .before .before .before .args .octets .now in
+    let t = c .before .before .before .before .before .before .before .before .before .before .before .loop in
+    let octet : Octets os = λ j. omega (arith, c .before .before .shared-slice-known9 .given j) in
+    (omega arith, omega arith, c .take-word .ensures ∙ header-more os (t .i) (t .w) (c .before .eight .result) (t .inv .2) (c .before .eight .ensures ∙ eight-octets os octet (t .i)))
 
 returns : tie.Need-returns Inv-loop μ-loop
 returns c =
@@ -66,12 +105,24 @@ header-words-spec =
     (tie.spec
     Inv-loop
     μ-loop
-    word-at-requires
-    mul-w
-    sub-w
-    shr-w
+    front-requires
     loop-holds
-    word-at-requires-2
+    shared-slice-read-eight
+    add-eight
+    shared-slice-read-eight-2
+    add-eight-2
+    shared-slice-read-eight-3
+    add-eight-3
+    shared-slice-read-eight-4
+    add-eight-4
+    shared-slice-read-eight-5
+    add-eight-5
+    shared-slice-read-eight-6
+    add-eight-6
+    shared-slice-read-eight-7
+    add-eight-7
+    shared-slice-read-eight-8
+    eight-requires
     take-word-requires
     add-i
     loop-less

@@ -17,32 +17,15 @@ returns c = λ t. never t refl
 row-remainders-requires : tie.Need-row-remainders-requires
 row-remainders-requires c κs = search needs
 
-array-read-result : tie.Need-array-read-result
-array-read-result c = search needs
-
-array-read-result-2 : tie.Need-array-read-result-2
-array-read-result-2 c = search needs
-
-array-read-result-3 : tie.Need-array-read-result-3
-array-read-result-3 c = search needs
-
-array-read-result-4 : tie.Need-array-read-result-4
-array-read-result-4 c = search needs
+none-left-requires : tie.Need-none-left-requires
+none-left-requires c κs = search needs
 
 returns-2 : tie.Need-returns-2
 returns-2 c =
-    let s = c .row-remainders in
-    λ t. record { rows = rows-clean (c .before .before .before .args .m) (s .result) (s .ensures) t; columns = sym (c .before .before .columns-good .ensures) ∙ not-false _ (c .before .if1 .left) }
+    let s = c .before .row-remainders in
+    λ t. record { rows = rows-clean (c .before .before .before .before .args .m) (s .result) (s .ensures) (c .none-left .ensures t); columns = sym (c .before .before .before .columns-good .ensures) ∙ not-false _ (c .before .before .if1 .left) }
 
 pub is-clean-spec : {M : Type 1} → statement M
 is-clean-spec =
     tie.close
-    (tie.spec
-    columns-good-requires
-    returns
-    row-remainders-requires
-    array-read-result
-    array-read-result-2
-    array-read-result-3
-    array-read-result-4
-    returns-2)
+    (tie.spec columns-good-requires returns row-remainders-requires none-left-requires returns-2)

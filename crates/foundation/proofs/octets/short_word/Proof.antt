@@ -10,9 +10,6 @@ use borrow.Author.Needs.{needs}
 use Rattle.foundation.proofs.octets.short_word.Statement.{statement}
 use Rattle.foundation.proofs.octets.short_word.Tie as tie
 
-shared-slice-read-eight : tie.Need-shared-slice-read-eight
-shared-slice-read-eight c = search needs
-
 add-at : tie.Need-add-at
 add-at c = search needs
 
@@ -49,6 +46,9 @@ add-at-6 c = search needs
 at-requires-6 : tie.Need-at-requires-6
 at-requires-6 c κs = search needs
 
+shared-slice-read-eight : tie.Need-shared-slice-read-eight
+shared-slice-read-eight c = search needs
+
 eight-requires : tie.Need-eight-requires
 eight-requires c κs = search needs
 
@@ -58,13 +58,12 @@ returns c =
     let os = a .octets .now in
     let octet : Octets os = λ j. omega (arith, c .before .before .before .before .before .before .before .before .shared-slice-known .given j) in
     let last : getD os (a .i + 7) 0 ≡ 0 = List·getD-eq-default os 0 (omega arith) in
-    c .eight .ensures ∙ omega (arith, last, c .before .before .before .before .before .before .at .ensures, c .before .before .before .before .before .at2 .ensures, c .before .before .before .before .at3 .ensures, c .before .before .before .at4 .ensures, c .before .before .at5 .ensures, c .before .at6 .ensures, eight-octets os octet (a .i))
+    c .eight .ensures ∙ omega (arith, last, c .before .before .before .before .before .before .before .at .ensures, c .before .before .before .before .before .before .at2 .ensures, c .before .before .before .before .before .at3 .ensures, c .before .before .before .before .at4 .ensures, c .before .before .before .at5 .ensures, c .before .before .at6 .ensures, eight-octets os octet (a .i))
 
 pub short-word-spec : {M : Type 1} → statement M
 short-word-spec =
     tie.close
     (tie.spec
-    shared-slice-read-eight
     add-at
     at-requires
     add-at-2
@@ -77,5 +76,6 @@ short-word-spec =
     at-requires-5
     add-at-6
     at-requires-6
+    shared-slice-read-eight
     eight-requires
     returns)

@@ -10,20 +10,8 @@ use borrow.Author.Needs.{needs}
 use Rattle.interleaver.proofs.reading.rows.Statement.{statement}
 use Rattle.interleaver.proofs.reading.rows.Tie as tie
 
-word-at-requires : tie.Need-word-at-requires
-word-at-requires c κs = search needs
-
-word-at-requires-2 : tie.Need-word-at-requires-2
-word-at-requires-2 c κs = search needs
-
-word-at-requires-3 : tie.Need-word-at-requires-3
-word-at-requires-3 c κs = search needs
-
-at-requires : tie.Need-at-requires
-at-requires c κs = search needs
-
-cast-d : tie.Need-cast-d
-cast-d c = search needs
+in-words-requires : tie.Need-in-words-requires
+in-words-requires c κs = search needs
 
 runs-requires : tie.Need-runs-requires
 runs-requires c κs = search needs
@@ -48,26 +36,17 @@ cut-requires c κs = search needs
 
 returns : tie.Need-returns
 returns c =
-    let f = c .before .before .before .before .before .before .before .before .before .before .before .before .args .field .now in
-    let a = c .before .before .before .before .before .before .before .before .before .before .word-at in
-    let b = c .before .before .before .before .before .before .before .before .before .word-at2 in
-    let d = c .before .before .before .before .before .before .before .before .word-at3 in
-    let o = c .before .before .before .before .before .before .before .at in
     c .cut .ensures
     ∙ ap₂ (λ (w x : ℕ). cutWords w x (c .before .before .group3 .result) (c .before .group4 .result)) (c .before .before .before .before .group .ensures) (c .before .before .before .group2 .ensures)
     ∙ ap₂ (λ (y z : ℕ). cutWords (grouped (c .before .before .before .before .before .turned .result .a)) (grouped (c .before .before .before .before .before .turned .result .b)) y z) (c .before .before .group3 .ensures) (c .before .group4 .ensures)
     ∙ ap cutSquare (c .before .before .before .before .before .turned .ensures ∙ ap turnedSquare (c .before .before .before .before .before .before .runs .ensures))
-    ∙ rows-read f (omega (arith, c .before .before .before .before .before .before .before .before .before .before .before .shared-slice-known .given 24)) (a .result) (b .result) (d .result) (o .result) (a .ensures) (b .ensures) (d .ensures) (o .ensures)
+    ∙ rows-read (c .before .before .before .before .before .before .before .before .before .args .field .now) (omega (arith, c .before .before .before .before .before .before .before .before .shared-slice-known .given 24)) (c .before .before .before .before .before .before .before .in-words .result) (c .before .before .before .before .before .before .before .in-words .ensures)
 
 pub rows-spec : {M : Type 1} → statement M
 rows-spec =
     tie.close
     (tie.spec
-    word-at-requires
-    word-at-requires-2
-    word-at-requires-3
-    at-requires
-    cast-d
+    in-words-requires
     runs-requires
     turned-requires
     group-requires
