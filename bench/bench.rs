@@ -9,6 +9,7 @@ mod children;
 mod dsdcc;
 mod fast;
 mod inputs;
+mod instructions;
 mod library;
 mod measures;
 mod plain;
@@ -32,8 +33,7 @@ fn main() {
         panic!("bench GATEWAY REPLAY BASELINE FOLDER");
     };
     let plan = timing::Plan { rounds: setting("ROUNDS", 60).max(1), turn: Duration::from_micros(500) };
-    measures::codes(&plan);
-    let mut aims = Vec::new();
+    let mut aims = measures::codes(&plan);
     #[cfg(dsdcc)]
     aims.push(dsdcc::measure(&plan));
     #[cfg(not(dsdcc))]
@@ -49,6 +49,7 @@ fn main() {
         rounds: setting("RUNS", 5).max(1),
     };
     aims.extend(children.measure());
+    aims.push(instructions::measure(&children.gateway, &children.replay, &children.baseline, &children.folder));
     println!("\n{:<72}{:>9}   aim", "aims", "ratio");
     aims.iter().for_each(timing::Aim::print);
 }

@@ -14,7 +14,7 @@ use std::hint::black_box;
 
 const MANY: usize = 256;
 
-/// A function of one input, in four versions.
+/// A function of one input, in four versions. Gives the library's time by the fast version's.
 fn of_inputs<I, O: PartialEq + Debug>(
     plan: &Plan,
     what: &str,
@@ -23,7 +23,7 @@ fn of_inputs<I, O: PartialEq + Debug>(
     plain: impl Fn(&I) -> O,
     fast: impl Fn(&I) -> O,
     reference: impl Fn(&I) -> O,
-) {
+) -> Option<f64> {
     for input in inputs {
         let right = reference(input);
         assert_eq!(library(input), right, "{what}: the library and the reference differ");
@@ -31,7 +31,12 @@ fn of_inputs<I, O: PartialEq + Debug>(
         assert_eq!(fast(input), right, "{what}: the fast version and the reference differ");
     }
     let versions = vec![over("library", inputs, library), over("plain", inputs, plain), over("fast", inputs, fast)];
-    measure(plan, what, inputs.len(), versions.into_iter().chain([over("reference", inputs, reference)]).collect());
+    by_fast(measure(plan, what, inputs.len(), versions.into_iter().chain([over("reference", inputs, reference)]).collect()))
+}
+
+/// The library's time by the fast version's.
+fn by_fast([library, _, fast, _]: [Option<f64>; 4]) -> Option<f64> {
+    ratio(library, fast)
 }
 
 fn over<'a, I, O>(name: &'static str, inputs: &'a [I], f: impl Fn(&I) -> O + 'a) -> Version<'a> {
@@ -72,7 +77,7 @@ fn make<T>(f: impl FnMut(&mut Random) -> T) -> Vec<T> {
     (0..MANY).map(|_| f(&mut random)).collect()
 }
 
-pub fn codes(plan: &Plan) {
+pub fn codes(plan: &Plan) -> Vec<Aim> {
     head("codes and readers", "ns each");
     for (what, parity, data) in [
         ("slot type read, no wrong bit", 0, 0),
@@ -91,6 +96,7 @@ pub fn codes(plan: &Plan) {
         let (plain, fast) = (|w: &u32| Plain::read_slot_type(*w), |w: &u32| Fast::read_slot_type(*w));
         of_inputs(plan, what, &words, |w| library::read_slot_type(*w), plain, fast, reference);
     }
+    let mut read = Vec::new();
     for (what, columns, deep) in [
         ("block field read, no wrong bit", 0, false),
         ("block field read, a wrong bit in each column", 15, false),
@@ -98,11 +104,12 @@ pub fn codes(plan: &Plan) {
     ] {
         let fields = make(|random| field(random, columns, deep));
         let reference = |f: &[u8; 25]| reference::codes::read_field(&bits_of(f)[..196]);
-        of_inputs(plan, what, &fields, library::read_field, Plain::read_field, Fast::read_field, reference);
+        read.push(of_inputs(plan, what, &fields, library::read_field, Plain::read_field, Fast::read_field, reference));
     }
+    let worst = read[1].zip(read[2]).map(|(one, more)| one.max(more));
     let infos = make(|random| random.array::<12>());
     let reference = |info: &[u8; 12]| octets_of(&reference::codes::write_field(info)).try_into().expect("25 octets");
-    of_inputs(plan, "block field write", &infos, library::write_field, Plain::write_field, Fast::write_field, reference);
+    let written = of_inputs(plan, "block field write", &infos, library::write_field, Plain::write_field, Fast::write_field, reference);
 
     let tens = make(|random| random.array::<10>());
     let library = |o: &[u8; 10]| library::header_check(0xCCCC, o);
@@ -113,15 +120,15 @@ pub fn codes(plan: &Plan) {
     let library = |o: &[u8; 510]| library::header_check(0, o);
     let reference = |o: &[u8; 510]| reference::codes::header_check(0, o);
     let (plain, fast) = (|o: &[u8; 510]| Plain::header_check(0, o), |o: &[u8; 510]| Fast::header_check(0, o));
-    of_inputs(plan, "stored block's check, 510 octets", halves, library, plain, fast, reference);
+    let stored = of_inputs(plan, "stored block's check, 510 octets", halves, library, plain, fast, reference);
     let library = |o: &[u8; 10]| library::block_check(o[0] & 127, o);
     let reference = |o: &[u8; 10]| reference::codes::block_check(o[0] & 127, o);
     let (plain, fast) = (|o: &[u8; 10]| Plain::block_check(o[0] & 127, o), |o: &[u8; 10]| Fast::block_check(o[0] & 127, o));
-    of_inputs(plan, "block check, 10 octets and serial", &tens, library, plain, fast, reference);
+    let block = of_inputs(plan, "block check, 10 octets and serial", &tens, library, plain, fast, reference);
     let messages = &make(|random| random.array::<626>())[..32];
     let reference = |o: &[u8; 626]| reference::codes::message_check(o);
     let (plain, fast) = (|o: &[u8; 626]| Plain::message_check(o), |o: &[u8; 626]| Fast::message_check(o));
-    of_inputs(plan, "message check, 626 octets", messages, |o| library::message_check(o), plain, fast, reference);
+    let message = of_inputs(plan, "message check, 626 octets", messages, |o| library::message_check(o), plain, fast, reference);
 
     let mut sent = round(&mut Random(2));
     let library = |d: &[u8; 53]| into(|out| library::read_datagram(d, out));
@@ -134,6 +141,14 @@ pub fn codes(plan: &Plan) {
         flip(&mut d[20..], 166 + i % 98);
     }
     of_inputs(plan, "datagram read, a data bit and 2 field bits", &sent, library, plain, fast, reference_datagram);
+    vec![
+        Aim { what: "block field read, no wrong bit, library by fast", aim: "at most 2.5", ratio: read[0] },
+        Aim { what: "block field read, the worse of the others, library by fast", aim: "at most 1.3", ratio: worst },
+        Aim { what: "block field write, library by fast", aim: "at most 15", ratio: written },
+        Aim { what: "stored block's check, library by fast", aim: "at most 1.5", ratio: stored },
+        Aim { what: "block check, library by fast", aim: "at most 5", ratio: block },
+        Aim { what: "message check, library by fast", aim: "at most 4", ratio: message },
+    ]
 }
 
 // ---- events
@@ -209,7 +224,7 @@ fn kept<'a, O>(name: &'static str, sent: &'a [[u8; 53]], mut on: impl FnMut(&[u8
     version(name, move || messages.next().into_iter().flatten().for_each(|d| drop(black_box(on(black_box(d))))))
 }
 
-pub fn events(plan: &Plan) -> [Aim; 2] {
+pub fn events(plan: &Plan) -> [Aim; 3] {
     head("events", "ns each");
     if !library::EVENTS {
         println!("skipped for the library: it has no kirruskabe_on_datagram");
@@ -227,7 +242,7 @@ pub fn events(plan: &Plan) -> [Aim; 2] {
             }
         })
     });
-    let [ours, theirs, ..] = measure(plan, "datagram to event, stored form", MESSAGE, versions.collect());
+    let event = by_fast(measure(plan, "datagram to event, stored form", MESSAGE, versions.collect()));
 
     // datagram n + 1 of a message is block n
     let mut seen = Vec::new();
@@ -244,7 +259,7 @@ pub fn events(plan: &Plan) -> [Aim; 2] {
                 }
             })
         });
-        seen.push(measure(plan, what, 8, versions.collect())[0]);
+        seen.push(measure(plan, what, 8, versions.collect()));
     }
 
     let (mut plain, mut fast) = (Receiver::<Plain>::fresh(OWN), Receiver::<Fast>::fresh(OWN));
@@ -256,7 +271,8 @@ pub fn events(plan: &Plan) -> [Aim; 2] {
     ];
     measure(plan, "datagram to event, receiver kept in memory", MESSAGE, versions);
     [
-        Aim { what: "datagram to event on the stored form, library by plain", aim: "at most 2", ratio: ratio(ours, theirs) },
-        Aim { what: "60th block by first block, library", aim: "1", ratio: ratio(seen[1], seen[0]) },
+        Aim { what: "datagram to event on the stored form, library by fast", aim: "at most 2", ratio: event },
+        Aim { what: "stored form, last block, handed on, library by fast", aim: "at most 2.5", ratio: by_fast(seen[2]) },
+        Aim { what: "60th block by first block, library", aim: "1", ratio: ratio(seen[1][0], seen[0][0]) },
     ]
 }

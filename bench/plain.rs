@@ -1,5 +1,5 @@
-//! The codes by the library's own algorithms, in the Rust that one writes without thinking of speed or proof: checks that take a
-//! bit or, for headers, an octet at a time, a search through the slot types, and a block field in 13 words.
+//! The codes in the Rust that one writes without thinking of speed: checks that take a bit or, for headers, an octet at a time, a
+//! search through the slot types, and a block field in 13 words, its bits picked one by one.
 
 use super::receiver::{Codes, Number};
 

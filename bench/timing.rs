@@ -87,7 +87,7 @@ pub fn measure(plan: &Plan, what: &str, operations: usize, mut versions: Vec<Ver
     figures
 }
 
-/// A ratio that has an aim.
+/// A ratio, or a count, that has an aim.
 pub struct Aim {
     pub what: &'static str,
     pub aim: &'static str,
@@ -96,7 +96,7 @@ pub struct Aim {
 
 impl Aim {
     pub fn print(&self) {
-        let ratio = self.ratio.map_or("-".into(), |r| format!("{r:.2}"));
+        let ratio = self.ratio.map_or("-".into(), |r| if r < 100.0 { format!("{r:.2}") } else { format!("{r:.0}") });
         println!("{:<72}{ratio:>9}   {}", self.what, self.aim);
     }
 }
