@@ -37,16 +37,7 @@ fn header_words(octets: &[u8]) -> u64
     let mut i = n % 8;
     let mut w = front(octets, i);
     while i < n {
-        let word = foundation::octets::eight(
-            octets[i],
-            octets[i + 1],
-            octets[i + 2],
-            octets[i + 3],
-            octets[i + 4],
-            octets[i + 5],
-            octets[i + 6],
-            octets[i + 7],
-        );
+        let word = foundation::octets::whole_word(octets, i);
         w = folds::header::take_word(w, word);
         i += 8;
     }

@@ -5,8 +5,12 @@ use mathlib.Core.List.{List}
 use Prim.Native.Nat.{ℕ, zero, suc, _+_, _*_, _-_, _/_, _%_, _^_, _≤_, _<_}
 use native.Mathlib.Nat.{add-zero}
 use native.Mathlib.Omega.{arith}
+use lib.Pow.{shr-shr}
+use lib.Dec.{T, ltb, ltb→lt}
 use lib.ListN.{length, getD, List·getD-eq-default}
 use Rattle.foundation.specs.Bits.{Bits, octetBit, valueOf, tabulate, octets}
+use Rattle.foundation.specs.Parts.{lastHighest, octetOf, turnedOctets}
+use Rattle.foundation.proofs.Tests.{choose, cond-ge}
 use Rattle.foundation.proofs.Runs.{value-append, value-part, tabulate-ext, octet-at}
 use Rattle.foundation.proofs.OctetLists.{Octets}
 
@@ -14,6 +18,28 @@ use Rattle.foundation.proofs.OctetLists.{Octets}
 unfoldable pub joined : List ℕ → ℕ → ℕ → ℕ
 joined os i zero = 0
 joined os i (suc k) = joined os i k * 256 + getD os (i + k) 0
+
+-- numbers below 256 as one, the first lowest
+stacked : (ℕ → ℕ) → ℕ → ℕ
+stacked f zero = 0
+stacked f (suc n) = f 0 + 256 * stacked (λ k. f (suc k)) n
+
+stacked-at : (n k : ℕ) (f : ℕ → ℕ) → ((j : ℕ) → f j < 256) → k < n → stacked f n / 2 ^ (8 * k) % 256 ≡ f k
+unfolding stacked
+stacked-at zero k f small h = absurd (omega arith)
+stacked-at (suc n) zero f small h = omega (arith, small 0)
+stacked-at (suc n) (suc k) f small h =
+    ap (λ (e : ℕ). x / 2 ^ e % 256) more ∙ ap (λ (y : ℕ). y % 256) (sym (shr-shr x 8 (8 * k))) ∙ ap (λ (y : ℕ). y / 2 ^ (8 * k) % 256) rest
+    ∙ stacked-at n k (λ j. f (suc j)) (λ j. small (suc j)) (omega arith)
+  where
+    x : ℕ
+    x = f 0 + 256 * stacked (λ j. f (suc j)) n
+
+    more : 8 * suc k ≡ 8 + 8 * k
+    more = omega arith
+
+    rest : x / 2 ^ 8 ≡ stacked (λ j. f (suc j)) n
+    rest = omega (arith, small 0)
 
 module _ (os : List ℕ) (octet : Octets os) where
   pub value-joined : (i k : ℕ) → valueOf (octetBit os) (8 * i) (8 * k) ≡ joined os i k
@@ -41,6 +67,28 @@ module _ (os : List ℕ) (octet : Octets os) where
     where
       past : (k : ℕ) → getD os (i + k) 0 ≡ 0
       past k = List·getD-eq-default os 0 (omega arith)
+
+  -- read the last highest, and turned
+  stacked-octets : (i : ℕ) → lastHighest os i ≡ stacked (λ k. getD os (i + k) 0) 8
+  unfolding lastHighest stacked
+  stacked-octets i = omega (arith, ap (λ (j : ℕ). getD os j 0) (add-zero i))
+
+  pub turned-back : (i : ℕ) → turnedOctets (lastHighest os i) ≡ valueOf (octetBit os) (8 * i) 64
+  unfolding turnedOctets
+  turned-back i =
+      (λ t. 2 ^ 56 * first t + 2 ^ 48 * octet-is 1 tt t + 2 ^ 40 * octet-is 2 tt t + 2 ^ 32 * octet-is 3 tt t + 2 ^ 24 * octet-is 4 tt t + 2 ^ 16 * octet-is 5 tt t + 2 ^ 8 * octet-is 6 tt t + octet-is 7 tt t)
+      ∙ eight-octets i
+    where
+      octet-is : (k : ℕ) → T (ltb k 8) → octetOf k (lastHighest os i) ≡ getD os (i + k) 0
+      octet-is k h = ap (octetOf k) (stacked-octets i) ∙ stacked-at 8 k (λ j. getD os (i + j) 0) (λ j. octet (i + j)) (ltb→lt k 8 h)
+
+      first : lastHighest os i % 256 ≡ getD os i 0
+      first = omega (arith, octet-is 0 tt, ap (λ (j : ℕ). getD os j 0) (add-zero i))
+
+-- where there are eight octets
+pub whole-word : (os : List ℕ) (i : ℕ) → i + 8 ≤ length os
+    → choose (ltb (length os) (i + 8)) 0 (valueOf (octetBit os) (8 * i) 64) ≡ valueOf (octetBit os) (8 * i) 64
+whole-word os i = cond-ge (length os) (i + 8) 0 (valueOf (octetBit os) (8 * i) 64)
 
 -- ---- octets out of words
 

@@ -1,8 +1,6 @@
 // The sent order undone.
 ghost use mathlib.Core.Path.{_≡_};
-ghost use Prim.Native.Nat.{_+_, _*_, _≤_};
-ghost use lib.ListN.{length};
-ghost use Rattle.foundation.specs.Bits.{octetBit, valueOf, tabulate};
+ghost use Rattle.foundation.specs.Bits.{tabulate};
 ghost use Rattle.interleaver.specs.Reading.{runsOf, grouped, cutWords, fieldWords, receivedRow};
 use crate::lanes::Square;
 
@@ -66,24 +64,7 @@ fn cut(w: u64, x: u64, y: u64, z: u64) -> [u16; 13]
     ]
 }
 
-// 64 bits of a field.
-fn word(f: &[u8], i: usize) -> u64
-    requires { ⌜ i + 8 ≤ length (now f) ⌝ }
-    ensures { λ r. ⌜ r ≡ valueOf (octetBit (now (f .entry))) (8 * i) 64 ⌝ }
-{
-    foundation::octets::eight(
-        f[i],
-        f[i + 1],
-        f[i + 2],
-        f[i + 3],
-        f[i + 4],
-        f[i + 5],
-        f[i + 6],
-        f[i + 7],
-    )
-}
-
-// The first 25 octets in words; zeros where there are fewer.
+// The first 25 octets in words; zeros where there are fewer. With all 25 no word is read by a call.
 fn in_words(field: &[u8]) -> Words
     ensures { λ r. ⌜ r ≡ fieldWords (now (field .entry)) ⌝ }
 {
@@ -96,9 +77,9 @@ fn in_words(field: &[u8]) -> Words
         };
     }
     Words {
-        a: word(field, 0),
-        b: word(field, 8),
-        c: word(field, 16),
+        a: foundation::octets::whole_word(field, 0),
+        b: foundation::octets::whole_word(field, 8),
+        c: foundation::octets::whole_word(field, 16),
         d: field[24] as u64,
     }
 }

@@ -10,6 +10,7 @@ use messages::message::BLOCK;
 use messages::message::MOST_BLOCKS;
 use receiver_state::Receiver;
 use receiver_state::STORE;
+use transactions::flags::FLAG_OCTETS;
 
 pub mod restoring;
 pub mod saving;
@@ -28,7 +29,7 @@ fn usable(rx: Receiver, store: usize, form: usize) -> bool
 }
 
 // The store with zeros for the octets of blocks not held: a copy of whole blocks.
-fn held_store(flags: [u8; 8], store: &[u8]) -> [u8; STORE]
+fn held_store(flags: [u8; FLAG_OCTETS], store: &[u8]) -> [u8; STORE]
     requires { ⌜ length (now store) ≡ storeSize ⌝ }
     ensures { λ r. ⌜ r ≡ heldOctets (flagged flags) (λ i. getD (now (store .entry)) i 0) 0 storeSize ⌝ }
 {

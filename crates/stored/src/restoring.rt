@@ -18,6 +18,7 @@ use addresses::RadioAddress;
 use messages::message::BLOCK;
 use receiver_state::Receiver;
 use receiver_state::STORE;
+use transactions::flags::FLAG_OCTETS;
 use transactions::header::Transaction;
 
 // Number 0 and the receiver restored, or the number of the refusal and the receiver as it was.
@@ -42,7 +43,7 @@ fn receiver_in(a: &[u8]) -> Receiver
         pad: a[13],
         blocks: a[14],
     };
-    let mut flags = [0u8; 8];
+    let mut flags = [0u8; FLAG_OCTETS];
     foundation::octets::put(&mut flags, 0, &a[15..STORE_AT_0]);
     Receiver {
         own,

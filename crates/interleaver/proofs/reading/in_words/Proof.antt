@@ -1,7 +1,9 @@
 -- `interleaver::reading::in_words` meets its contract.
 -- Assumes nothing.
+use mathlib.Core.Path.{_∙_}
 use native.Mathlib.Omega.{arith}
 use lib.ListN.{getD}
+use Rattle.foundation.proofs.OctetWords.{whole-word}
 use Rattle.interleaver.specs.Reading.{fieldWords}
 use borrow.Author.Needs.{needs}
 use Rattle.interleaver.proofs.reading.in_words.Statement.{statement}
@@ -31,14 +33,14 @@ returns c =
     let e = c .at .ensures in
     λ i. record { a = a i; b = b i; c = d i; d = e i }
 
-word-requires : tie.Need-word-requires
-word-requires c κs = search needs
+whole-word-requires : tie.Need-whole-word-requires
+whole-word-requires c κs = search needs
 
-word-requires-2 : tie.Need-word-requires-2
-word-requires-2 c κs = search needs
+whole-word-requires-2 : tie.Need-whole-word-requires-2
+whole-word-requires-2 c κs = search needs
 
-word-requires-3 : tie.Need-word-requires-3
-word-requires-3 c κs = search needs
+whole-word-requires-3 : tie.Need-whole-word-requires-3
+whole-word-requires-3 c κs = search needs
 
 shared-slice-read-t13 : tie.Need-shared-slice-read-t13
 shared-slice-read-t13 c = search needs
@@ -49,10 +51,11 @@ cast-t14 c = omega (arith, c .shared-slice-known2 .given 24)
 returns-2 : tie.Need-returns-2
 unfolding fieldWords
 returns-2 c =
-    let a = c .before .before .before .word .ensures in
-    let b = c .before .before .word2 .ensures in
-    let d = c .before .word3 .ensures in
-    λ i. record { a = a i; b = b i; c = d i; d = getD (c .before .before .before .before .before .before .args .field .now) 24 0 }
+    let os = c .before .before .before .before .before .before .args .field .now in
+    let a = c .before .before .before .whole-word .ensures ∙ whole-word os 0 (omega arith) in
+    let b = c .before .before .whole-word2 .ensures ∙ whole-word os 8 (omega arith) in
+    let d = c .before .whole-word3 .ensures ∙ whole-word os 16 (omega arith) in
+    λ i. record { a = a i; b = b i; c = d i; d = getD os 24 0 }
 
 pub in-words-spec : {M : Type 1} → statement M
 in-words-spec =
@@ -64,9 +67,9 @@ in-words-spec =
     at-requires
     cast-t8
     returns
-    word-requires
-    word-requires-2
-    word-requires-3
+    whole-word-requires
+    whole-word-requires-2
+    whole-word-requires-3
     shared-slice-read-t13
     cast-t14
     returns-2)
