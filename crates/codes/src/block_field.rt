@@ -178,21 +178,21 @@ fn last_info(m: [u16; 13]) -> u64
 fn info_octets(m: [u16; 13]) -> [u8; 12]
     ensures { λ r. ⌜ r ≡ infoOctets (cell m) ⌝ }
 {
-    let a = first_info(m);
-    let b = last_info(m) << 32;
+    let p = foundation::octets::octets_of(first_info(m));
+    let q = foundation::octets::octets_of(last_info(m) << 32);
     [
-        ((a >> 56) % 256) as u8,
-        ((a >> 48) % 256) as u8,
-        ((a >> 40) % 256) as u8,
-        ((a >> 32) % 256) as u8,
-        ((a >> 24) % 256) as u8,
-        ((a >> 16) % 256) as u8,
-        ((a >> 8) % 256) as u8,
-        (a % 256) as u8,
-        ((b >> 56) % 256) as u8,
-        ((b >> 48) % 256) as u8,
-        ((b >> 40) % 256) as u8,
-        ((b >> 32) % 256) as u8,
+        p[0],
+        p[1],
+        p[2],
+        p[3],
+        p[4],
+        p[5],
+        p[6],
+        p[7],
+        q[0],
+        q[1],
+        q[2],
+        q[3],
     ]
 }
 

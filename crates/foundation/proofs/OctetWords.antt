@@ -3,7 +3,7 @@
 use mathlib.Core.Path.{_≡_, refl, sym, ap, ap₂, _∙_}
 use mathlib.Core.List.{List}
 use Prim.Native.Nat.{ℕ, zero, suc, _+_, _*_, _-_, _/_, _%_, _^_, _≤_, _<_}
-use native.Mathlib.Nat.{add-zero}
+use native.Mathlib.Nat.{add-zero, div-one}
 use native.Mathlib.Omega.{arith}
 use lib.Pow.{shr-shr}
 use lib.Dec.{T, ltb, ltb→lt}
@@ -41,6 +41,28 @@ stacked-at (suc n) (suc k) f small h =
     rest : x / 2 ^ 8 ≡ stacked (λ j. f (suc j)) n
     rest = omega (arith, small 0)
 
+-- eight of them
+stacked-eight : (f : ℕ → ℕ) → 2 ^ 56 * f 7 + 2 ^ 48 * f 6 + 2 ^ 40 * f 5 + 2 ^ 32 * f 4 + 2 ^ 24 * f 3 + 2 ^ 16 * f 2 + 2 ^ 8 * f 1 + f 0 ≡ stacked f 8
+unfolding stacked
+stacked-eight f = omega arith
+
+-- octet k of a number turned
+pub turned-octet : (x k : ℕ) → k < 8 → turnedOctets x / 2 ^ (8 * k) % 2 ^ 8 ≡ x / 2 ^ (56 - 8 * k) % 2 ^ 8
+unfolding turnedOctets
+turned-octet x k h =
+    ap (octetOf k) stacks ∙ stacked-at 8 k from (λ j. omega arith) h ∙ ap (λ (e : ℕ). x / 2 ^ e % 256) place
+  where
+    from : ℕ → ℕ
+    from j = octetOf (7 - j) x
+
+    stacks : turnedOctets x ≡ stacked from 8
+    stacks =
+        (λ t. 2 ^ 56 * (sym (div-one x) t % 256) + 2 ^ 48 * octetOf 1 x + 2 ^ 40 * octetOf 2 x + 2 ^ 32 * octetOf 3 x + 2 ^ 24 * octetOf 4 x + 2 ^ 16 * octetOf 5 x + 2 ^ 8 * octetOf 6 x + octetOf 7 x)
+        ∙ stacked-eight from
+
+    place : 8 * (7 - k) ≡ 56 - 8 * k
+    place = omega arith
+
 module _ (os : List ℕ) (octet : Octets os) where
   pub value-joined : (i k : ℕ) → valueOf (octetBit os) (8 * i) (8 * k) ≡ joined os i k
   unfolding valueOf joined
@@ -69,9 +91,9 @@ module _ (os : List ℕ) (octet : Octets os) where
       past k = List·getD-eq-default os 0 (omega arith)
 
   -- read the last highest, and turned
-  stacked-octets : (i : ℕ) → lastHighest os i ≡ stacked (λ k. getD os (i + k) 0) 8
-  unfolding lastHighest stacked
-  stacked-octets i = omega (arith, ap (λ (j : ℕ). getD os j 0) (add-zero i))
+  stacks : (i : ℕ) → lastHighest os i ≡ stacked (λ k. getD os (i + k) 0) 8
+  unfolding lastHighest
+  stacks i = omega (arith, stacked-eight (λ k. getD os (i + k) 0), ap (λ (j : ℕ). getD os j 0) (add-zero i))
 
   pub turned-back : (i : ℕ) → turnedOctets (lastHighest os i) ≡ valueOf (octetBit os) (8 * i) 64
   unfolding turnedOctets
@@ -80,7 +102,7 @@ module _ (os : List ℕ) (octet : Octets os) where
       ∙ eight-octets i
     where
       octet-is : (k : ℕ) → T (ltb k 8) → octetOf k (lastHighest os i) ≡ getD os (i + k) 0
-      octet-is k h = ap (octetOf k) (stacked-octets i) ∙ stacked-at 8 k (λ j. getD os (i + j) 0) (λ j. octet (i + j)) (ltb→lt k 8 h)
+      octet-is k h = ap (octetOf k) (stacks i) ∙ stacked-at 8 k (λ j. getD os (i + j) 0) (λ j. octet (i + j)) (ltb→lt k 8 h)
 
       first : lastHighest os i % 256 ≡ getD os i 0
       first = omega (arith, octet-is 0 tt, ap (λ (j : ℕ). getD os j 0) (add-zero i))

@@ -1,10 +1,10 @@
 // Octets at a place of a slice, read and written for every place: nothing is asked of a caller.
 ghost use mathlib.Core.Path.{_≡_};
 ghost use mathlib.Core.Bool.{cond};
-ghost use Prim.Native.Nat.{_+_, _*_, _^_, _≤_, _<_, min};
+ghost use Prim.Native.Nat.{_+_, _*_, _-_, _/_, _%_, _^_, _≤_, _<_, min};
 ghost use lib.Dec.{ltb};
 ghost use lib.ListN.{length, getD};
-ghost use Rattle.foundation.specs.Bits.{octetBit, valueOf};
+ghost use Rattle.foundation.specs.Bits.{octetBit, valueOf, tabulate};
 ghost use Rattle.foundation.specs.Octets.{put as put·octets};
 ghost use Rattle.foundation.specs.Parts.{lastHighest, turnedOctets};
 
@@ -22,14 +22,14 @@ pub fn at(octets: &[u8], i: usize) -> u8
 fn four(a: u8, b: u8, c: u8, d: u8) -> u64
     ensures { λ r. ⌜ r ≡ 2 ^ 24 * a + 2 ^ 16 * b + 2 ^ 8 * c + d ⌝ }
 {
-    0x100_0000 * (a as u64) + 0x1_0000 * (b as u64) + 0x100 * (c as u64) + (d as u64)
+    (d as u64) + 0x100 * (c as u64) + 0x1_0000 * (b as u64) + 0x100_0000 * (a as u64)
 }
 
 // The number of eight octets, the first highest.
 fn eight(a: u8, b: u8, c: u8, d: u8, e: u8, f: u8, g: u8, h: u8) -> u64
     ensures { λ r. ⌜ r ≡ 2 ^ 56 * a + 2 ^ 48 * b + 2 ^ 40 * c + 2 ^ 32 * d + 2 ^ 24 * e + 2 ^ 16 * f + 2 ^ 8 * g + h ⌝ }
 {
-    0x1_0000_0000 * four(a, b, c, d) + four(e, f, g, h)
+    four(e, f, g, h) + 0x1_0000_0000 * four(a, b, c, d)
 }
 
 // Octets i to i + 7 as a number, the last highest. In this order, and by fours, the compiler reads them at once.
@@ -63,6 +63,23 @@ fn turned(x: u64) -> u64
         ((x >> 48) % 256) as u8,
         ((x >> 56) % 256) as u8,
     )
+}
+
+// The eight octets of a number, the highest first. The compiler writes them at once where they are taken from the low end.
+pub fn octets_of(x: u64) -> [u8; 8]
+    ensures { λ r. ⌜ r ≡ tabulate 8 (λ j. x / 2 ^ (56 - 8 * j) % 2 ^ 8) ⌝ }
+{
+    let y = turned(x);
+    [
+        (y % 256) as u8,
+        ((y >> 8) % 256) as u8,
+        ((y >> 16) % 256) as u8,
+        ((y >> 24) % 256) as u8,
+        ((y >> 32) % 256) as u8,
+        ((y >> 40) % 256) as u8,
+        ((y >> 48) % 256) as u8,
+        ((y >> 56) % 256) as u8,
+    ]
 }
 
 // The octets from i on, fewer than eight of them, and zeros behind them.

@@ -64,32 +64,36 @@ fn five_runs(h: u64, x: u64, s: u64) -> u64
 pub fn field_of(a: u64, b: u64, c: u64, d: u64) -> [u8; 25]
     ensures { λ r. ⌜ r ≡ fieldOctets a b c d ⌝ }
 {
+    let p = foundation::octets::octets_of(a);
+    let q = foundation::octets::octets_of(b);
+    let r = foundation::octets::octets_of(c);
+    let s = foundation::octets::octets_of(d);
     [
-        ((a >> 56) % 256) as u8,
-        ((a >> 48) % 256) as u8,
-        ((a >> 40) % 256) as u8,
-        ((a >> 32) % 256) as u8,
-        ((a >> 24) % 256) as u8,
-        ((a >> 16) % 256) as u8,
-        ((a >> 8) % 256) as u8,
-        (a % 256) as u8,
-        ((b >> 56) % 256) as u8,
-        ((b >> 48) % 256) as u8,
-        ((b >> 40) % 256) as u8,
-        ((b >> 32) % 256) as u8,
-        ((b >> 24) % 256) as u8,
-        ((b >> 16) % 256) as u8,
-        ((b >> 8) % 256) as u8,
-        (b % 256) as u8,
-        ((c >> 56) % 256) as u8,
-        ((c >> 48) % 256) as u8,
-        ((c >> 40) % 256) as u8,
-        ((c >> 32) % 256) as u8,
-        ((c >> 24) % 256) as u8,
-        ((c >> 16) % 256) as u8,
-        ((c >> 8) % 256) as u8,
-        (c % 256) as u8,
-        ((d >> 56) % 256) as u8,
+        p[0],
+        p[1],
+        p[2],
+        p[3],
+        p[4],
+        p[5],
+        p[6],
+        p[7],
+        q[0],
+        q[1],
+        q[2],
+        q[3],
+        q[4],
+        q[5],
+        q[6],
+        q[7],
+        r[0],
+        r[1],
+        r[2],
+        r[3],
+        r[4],
+        r[5],
+        r[6],
+        r[7],
+        s[0],
     ]
 }
 

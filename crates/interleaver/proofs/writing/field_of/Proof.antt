@@ -1,117 +1,142 @@
 -- `interleaver::writing::field_of` meets its contract.
 -- Assumes nothing.
-use native.Mathlib.Nat.{div-one}
+use mathlib.Core.List.{[], _∷_}
+use lib.ListN.{getD}
 use Rattle.interleaver.specs.Writing.{fieldOctets}
 use borrow.Author.Needs.{needs}
 use Rattle.interleaver.proofs.writing.field_of.Statement.{statement}
 use Rattle.interleaver.proofs.writing.field_of.Tie as tie
 
-cast-t7 : tie.Need-cast-t7
-cast-t7 c = search needs
+octets-of-requires : tie.Need-octets-of-requires
+octets-of-requires c κs = search needs
 
-cast-t10 : tie.Need-cast-t10
-cast-t10 c = search needs
+octets-of-requires-2 : tie.Need-octets-of-requires-2
+octets-of-requires-2 c κs = search needs
 
-cast-t13 : tie.Need-cast-t13
-cast-t13 c = search needs
+octets-of-requires-3 : tie.Need-octets-of-requires-3
+octets-of-requires-3 c κs = search needs
 
-cast-t16 : tie.Need-cast-t16
-cast-t16 c = search needs
+octets-of-requires-4 : tie.Need-octets-of-requires-4
+octets-of-requires-4 c κs = search needs
 
-cast-t19 : tie.Need-cast-t19
-cast-t19 c = search needs
+array-read-t12 : tie.Need-array-read-t12
+array-read-t12 c = search needs
 
-cast-t22 : tie.Need-cast-t22
-cast-t22 c = search needs
+array-read-t15 : tie.Need-array-read-t15
+array-read-t15 c = search needs
 
-cast-t25 : tie.Need-cast-t25
-cast-t25 c = search needs
+array-read-t18 : tie.Need-array-read-t18
+array-read-t18 c = search needs
 
-cast-t27 : tie.Need-cast-t27
-cast-t27 c = search needs
+array-read-t21 : tie.Need-array-read-t21
+array-read-t21 c = search needs
 
-cast-t30 : tie.Need-cast-t30
-cast-t30 c = search needs
+array-read-t24 : tie.Need-array-read-t24
+array-read-t24 c = search needs
 
-cast-t33 : tie.Need-cast-t33
-cast-t33 c = search needs
+array-read-t27 : tie.Need-array-read-t27
+array-read-t27 c = search needs
 
-cast-t36 : tie.Need-cast-t36
-cast-t36 c = search needs
+array-read-t30 : tie.Need-array-read-t30
+array-read-t30 c = search needs
 
-cast-t39 : tie.Need-cast-t39
-cast-t39 c = search needs
+array-read-t33 : tie.Need-array-read-t33
+array-read-t33 c = search needs
 
-cast-t42 : tie.Need-cast-t42
-cast-t42 c = search needs
+array-read-t36 : tie.Need-array-read-t36
+array-read-t36 c = search needs
 
-cast-t45 : tie.Need-cast-t45
-cast-t45 c = search needs
+array-read-t39 : tie.Need-array-read-t39
+array-read-t39 c = search needs
 
-cast-t48 : tie.Need-cast-t48
-cast-t48 c = search needs
+array-read-t42 : tie.Need-array-read-t42
+array-read-t42 c = search needs
 
-cast-t50 : tie.Need-cast-t50
-cast-t50 c = search needs
+array-read-t45 : tie.Need-array-read-t45
+array-read-t45 c = search needs
 
-cast-t53 : tie.Need-cast-t53
-cast-t53 c = search needs
+array-read-t48 : tie.Need-array-read-t48
+array-read-t48 c = search needs
 
-cast-t56 : tie.Need-cast-t56
-cast-t56 c = search needs
+array-read-t51 : tie.Need-array-read-t51
+array-read-t51 c = search needs
 
-cast-t59 : tie.Need-cast-t59
-cast-t59 c = search needs
+array-read-t54 : tie.Need-array-read-t54
+array-read-t54 c = search needs
 
-cast-t62 : tie.Need-cast-t62
-cast-t62 c = search needs
+array-read-t57 : tie.Need-array-read-t57
+array-read-t57 c = search needs
 
-cast-t65 : tie.Need-cast-t65
-cast-t65 c = search needs
+array-read-t60 : tie.Need-array-read-t60
+array-read-t60 c = search needs
 
-cast-t68 : tie.Need-cast-t68
-cast-t68 c = search needs
+array-read-t63 : tie.Need-array-read-t63
+array-read-t63 c = search needs
 
-cast-t71 : tie.Need-cast-t71
-cast-t71 c = search needs
+array-read-t66 : tie.Need-array-read-t66
+array-read-t66 c = search needs
 
-cast-t73 : tie.Need-cast-t73
-cast-t73 c = search needs
+array-read-t69 : tie.Need-array-read-t69
+array-read-t69 c = search needs
 
-cast-t76 : tie.Need-cast-t76
-cast-t76 c = search needs
+array-read-t72 : tie.Need-array-read-t72
+array-read-t72 c = search needs
+
+array-read-t75 : tie.Need-array-read-t75
+array-read-t75 c = search needs
+
+array-read-t78 : tie.Need-array-read-t78
+array-read-t78 c = search needs
+
+array-read-t81 : tie.Need-array-read-t81
+array-read-t81 c = search needs
+
+array-read-t84 : tie.Need-array-read-t84
+array-read-t84 c = search needs
 
 returns : tie.Need-returns
 unfolding fieldOctets
-returns c = simp div-one
+returns c =
+    let p = c .before .before .before .octets-of .ensures in
+    let q = c .before .before .octets-of2 .ensures in
+    let r = c .before .octets-of3 .ensures in
+    let s = c .octets-of4 .ensures in
+    λ t. getD (p t) 0 0 ∷ getD (p t) 1 0 ∷ getD (p t) 2 0 ∷ getD (p t) 3 0 ∷ getD (p t) 4 0 ∷ getD (p t) 5 0 ∷ getD (p t) 6 0 ∷ getD (p t) 7 0
+    ∷ getD (q t) 0 0 ∷ getD (q t) 1 0 ∷ getD (q t) 2 0 ∷ getD (q t) 3 0 ∷ getD (q t) 4 0 ∷ getD (q t) 5 0 ∷ getD (q t) 6 0 ∷ getD (q t) 7 0
+    ∷ getD (r t) 0 0 ∷ getD (r t) 1 0 ∷ getD (r t) 2 0 ∷ getD (r t) 3 0 ∷ getD (r t) 4 0 ∷ getD (r t) 5 0 ∷ getD (r t) 6 0 ∷ getD (r t) 7 0
+    ∷ getD (s t) 0 0 ∷ []
 
 pub field-of-spec : {M : Type 1} → statement M
 field-of-spec =
     tie.close
     (tie.spec
-    cast-t7
-    cast-t10
-    cast-t13
-    cast-t16
-    cast-t19
-    cast-t22
-    cast-t25
-    cast-t27
-    cast-t30
-    cast-t33
-    cast-t36
-    cast-t39
-    cast-t42
-    cast-t45
-    cast-t48
-    cast-t50
-    cast-t53
-    cast-t56
-    cast-t59
-    cast-t62
-    cast-t65
-    cast-t68
-    cast-t71
-    cast-t73
-    cast-t76
+    octets-of-requires
+    octets-of-requires-2
+    octets-of-requires-3
+    octets-of-requires-4
+    array-read-t12
+    array-read-t15
+    array-read-t18
+    array-read-t21
+    array-read-t24
+    array-read-t27
+    array-read-t30
+    array-read-t33
+    array-read-t36
+    array-read-t39
+    array-read-t42
+    array-read-t45
+    array-read-t48
+    array-read-t51
+    array-read-t54
+    array-read-t57
+    array-read-t60
+    array-read-t63
+    array-read-t66
+    array-read-t69
+    array-read-t72
+    array-read-t75
+    array-read-t78
+    array-read-t81
+    array-read-t84
     returns)
