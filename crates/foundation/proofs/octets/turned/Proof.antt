@@ -1,7 +1,5 @@
 -- `foundation::octets::turned` meets its contract.
 -- Assumes nothing.
-use mathlib.Core.Path.{_∙_}
-use native.Mathlib.Omega.{arith}
 use Rattle.foundation.specs.Parts.{turnedOctets}
 use borrow.Author.Needs.{needs}
 use Rattle.foundation.proofs.octets.turned.Statement.{statement}

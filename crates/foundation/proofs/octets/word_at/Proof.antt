@@ -1,8 +1,7 @@
 -- `foundation::octets::word_at` meets its contract.
 -- Assumes nothing.
-use mathlib.Core.Path.{_≡_, sym, ap, _∙_}
+use mathlib.Core.Path.{sym, ap, _∙_}
 use native.Mathlib.Omega.{arith}
-use lib.ListN.{length}
 use Rattle.foundation.specs.Parts.{turnedOctets}
 use Rattle.foundation.proofs.OctetLists.{Octets}
 use Rattle.foundation.proofs.OctetWords.{none-octets, turned-back}
