@@ -1,4 +1,6 @@
 // Radio addresses of 24 bits and repeater numbers of 32: two types, so that one is never taken for the other.
+#![tactic(auto)]
+
 ghost use Rattle.std.specs.Prelude.{◌≡◌, ◌+◌, ◌*◌, ◌^◌, ltb};
 ghost use Rattle.addresses.specs.Octets.{three_octets, four_octets, address_at, number_at};
 

@@ -1,2 +1,4 @@
 // Bursts: octets to fields and back.
+#![tactic(auto)]
+
 pub mod burst;

@@ -1,4 +1,6 @@
 // A part of a capture: datagrams at a gateway, and lines of text for them. What a program is left with is reading and writing.
+#![tactic(auto)]
+
 ghost use Rattle.std.specs.Prelude.{◌≡◌, cond, ◌+◌, ◌*◌, ◌-◌, ◌/◌, ◌≤◌, ◌<◌, min, length};
 ghost use Rattle.foundation.specs.Octets.{put};
 ghost use Rattle.receiver_state.specs.Receiver.{store_size};

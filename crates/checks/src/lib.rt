@@ -1,5 +1,7 @@
 // The checks of headers, blocks and messages, over any octets: eight octets at a time, ten at once, four at a time. What is left of the
 // other two is taken in by a register of 32 bits, in whose high bits a generator of degree n stands without its highest power.
+#![tactic(auto)]
+
 ghost use Rattle.std.specs.Prelude.{◌≡◌, ◌+◌, ◌*◌, ◌/◌, ◌%◌, ◌≤◌, ◌<◌, length};
 ghost use Rattle.foundation.specs.Bits.{octet_bit, value_of};
 ghost use Rattle.polynomials.specs.Remainder.{remainder, check};

@@ -1,4 +1,6 @@
 // The counts that the gateway prints: datagrams, messages handed on and refusals, over the answers that it gave.
+#![tactic(auto)]
+
 ghost use Rattle.std.specs.Prelude.{◌≡◌, [], ◌∷◌, if◌then◌else◌};
 ghost use Rattle.counting.specs.Counts.{answer_number, is_message, is_refused, counts_of, CountsOn};
 ghost use Rattle.counting.specs.Counts.{counted as Counts·counted};

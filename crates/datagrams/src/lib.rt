@@ -1,4 +1,6 @@
 // A datagram of 53 octets that carries a burst.
+#![tactic(auto)]
+
 ghost use Rattle.std.specs.Prelude.{◌≡◌, ◌<◌, true, ◌++◌, length};
 ghost use Rattle.datagrams.specs.Datagrams.{next_sequence, prefixed, labels_of, refused_datagram, read_datagram, label_octets, write_datagram};
 ghost use Rattle.datagrams.specs.DatagramClaims.{DatagramComesBack};

@@ -1,6 +1,8 @@
 // Reads the own address (3 octets) and then datagrams of 53 from standard input, as the program gateway does. For each message that is
 // handed on a line with the index of the datagram that completes it, source, SAP, length and octets in hexadecimal; for each whose check is
 // bad the index, the source and `bad`.
+#![tactic(auto)]
+
 use captures::Listing;
 
 fn main() {

@@ -1,4 +1,6 @@
 // Events on the stored form, for gateways that keep nothing else: restore, act, save. A refusal changes nothing.
+#![tactic(auto)]
+
 ghost use Rattle.std.specs.Prelude.{◌≡◌, ◌*◌, ◌^◌, ◌<◌, length, replicate};
 ghost use Rattle.addresses.specs.Octets.{address_at};
 ghost use Rattle.history.specs.History.{header, block, ended};

@@ -1,2 +1,3 @@
 // What every layer rests on: octets at a place, read and written. Bits, the order of checks and their laws stand in specs/ and proofs/.
+#![tactic(auto)]
 pub mod octets;

@@ -131,7 +131,8 @@ pub fn put(to: &mut [u8], at: usize, octets: &[u8])
     if size - at < octets.len() {
         return;
     }
-    bytes::copy(octets, &mut to[at..]);
+    let end = at + octets.len();
+    to[at..end].copy_from_slice(octets);
 }
 
 // The shorter of two lengths.

@@ -1,5 +1,7 @@
 // Reads the own address (3 octets) and then datagrams of 53 from standard input. For each a line with its index from 0 and its number, 0
 // for none; leftover octets are one more datagram. Then `end` with the numbers of datagrams, messages and refusals.
+#![tactic(auto)]
+
 use captures::Listing;
 
 fn main() {

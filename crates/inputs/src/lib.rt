@@ -1,4 +1,6 @@
 // What a program reads from standard input: octets behind those that it has kept, and the rest of them moved to the front.
+#![tactic(auto)]
+
 ghost use Rattle.std.specs.Prelude.{◌≡◌, ◌+◌, ◌-◌, ◌≤◌, length, drop};
 ghost use Rattle.foundation.specs.Octets.{put};
 ghost use Rattle.inputs.specs.Inputs.{ReadBehind};

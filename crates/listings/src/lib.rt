@@ -1,4 +1,6 @@
 // A capture on standard input, listed on standard output: what the programs gateway and delivered have in common.
+#![tactic(auto)]
+
 ghost use Rattle.std.specs.Prelude.{◌≡◌, ◌+◌, ◌%◌, ◌^◌, ◌≤◌, false, length};
 ghost use Rattle.receiver_state.specs.Receiver.{store_size};
 ghost use Rattle.captures.specs.Lines.{closing, line_room};

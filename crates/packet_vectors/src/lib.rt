@@ -1,6 +1,8 @@
 // Runs the worked examples of document 01 on bursts, datagrams, headers, blocks, messages, responses and the receiver through the public
 // functions of the libraries. All values are in hexadecimal. Each function says how many cases it counts; the check finds this by itself for at most
 // four cases or groups in a row, so no function has more.
+#![tactic(auto)]
+
 ghost use Rattle.std.specs.Prelude.{◌≡◌, ◌+◌, ◌%◌, ◌^◌};
 ghost use Rattle.packet_vectors.specs.Examples.{PExamples};
 

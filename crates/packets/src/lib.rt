@@ -1,3 +1,5 @@
 // Headers and blocks: octets to fields and back.
+#![tactic(auto)]
+
 pub mod block;
 pub mod header;

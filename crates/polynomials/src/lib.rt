@@ -1,5 +1,7 @@
 // Division of polynomials over GF(2), a bit at a time, by every generator of degree 32. A generator of a lower degree n
 // is taken times x^(32 - n): its checks then stand in the n high bits of the register.
+#![tactic(auto)]
+
 ghost use Rattle.std.specs.Prelude.{◌≡◌, ◌+◌, ◌*◌, ◌^◌, length};
 ghost use Rattle.std.specs.Int.Bits.{bit_xor};
 ghost use Rattle.foundation.specs.Bits.{zeros, octet_bit};

@@ -1,4 +1,6 @@
 // A receiver, and which ones there can be.
+#![tactic(auto)]
+
 ghost use Rattle.std.specs.Prelude.{◌≡◌, cond, eqb};
 ghost use Rattle.receiver_state.specs.Receiver.{fresh_receiver, fresh_for, transaction_good, transaction_none, receiver_good};
 

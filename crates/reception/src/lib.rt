@@ -1,4 +1,6 @@
 // Reception: datagrams at one receiver. What a datagram is, is decided here and nowhere else.
+#![tactic(auto)]
+
 ghost use Rattle.std.specs.Prelude.{◌≡◌};
 ghost use Rattle.reception.specs.Reception.{arrival_of, with_answer, by_receiver, on_datagram};
 ghost use Rattle.reception.specs.Claims.{Arrives};

@@ -1,5 +1,7 @@
 // Reads a log from standard input: own address (3 octets), then records of kind (1 octet), length (2 octets, most significant first) and
 // that many octets. For each a line with what is answered. A record that the end of the input cuts short is the last, refused with 1.
+#![tactic(auto)]
+
 ghost use Rattle.std.specs.Prelude.{◌≡◌, ◌≤◌, length};
 ghost use Rattle.receiver_state.specs.Receiver.{store_size};
 ghost use Rattle.replays.specs.Text.{report_room};

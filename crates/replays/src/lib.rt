@@ -1,4 +1,6 @@
 // A part of a log: records at a receiver, and a line of text for each. What a program is left with is reading and writing.
+#![tactic(auto)]
+
 ghost use Rattle.std.specs.Prelude.{◌≡◌, true, false, cond, [], ◌∷◌, ◌+◌, ◌*◌, ◌/◌, ◌≤◌, ltb, length};
 ghost use Rattle.addresses.specs.Octets.{address_at};
 ghost use Rattle.foundation.specs.Order.{all};

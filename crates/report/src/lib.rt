@@ -1,4 +1,6 @@
 // The lines of a program that runs worked examples, and their count.
+#![tactic(auto)]
+
 ghost use Rattle.std.specs.Prelude.{◌≡◌, ℕ, ◌+◌, ◌%◌, ◌^◌, Bool, false, List};
 ghost use Rattle.report.specs.Counted.{Counted};
 

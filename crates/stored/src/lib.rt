@@ -1,4 +1,6 @@
 // The stored form of a receiver: saving it, and restoring it from any octets.
+#![tactic(auto)]
+
 ghost use Rattle.std.specs.Prelude.{◌≡◌, length, get_or};
 ghost use Rattle.transactions.specs.Flags.{flagged};
 ghost use Rattle.receiver_state.specs.Receiver.{store_size};

@@ -1,5 +1,7 @@
 // Text in lent memory: each function writes at a place and says where it ends. Where there is no room nothing is written, and it ends where
 // it begins.
+#![tactic(auto)]
+
 ghost use Rattle.std.specs.Prelude.{◌≡◌, ◌+◌, ◌*◌, ◌≤◌, ◌<◌, length};
 ghost use Rattle.io.specs.Digits.{hex_digit_ascii};
 ghost use Rattle.foundation.specs.Octets.{put};

@@ -2,6 +2,8 @@
 // the library packet_vectors runs. A line for each case: its name, what was computed, and `ok`, or `wrong, not` and what it should be. The
 // last line counts the cases and the wrong ones. Words, octets and numbers of refusals are in hexadecimal, positions in decimal.
 // Where a line can't be written, standard error says so at the end. With an argument nothing is run.
+#![tactic(auto)]
+
 mod block_fields;
 mod check_cases;
 mod slot_types;

@@ -1,0 +1,10 @@
+-- `foundation::octets::turned` meets its contract.
+-- Assumes nothing.
+use Rattle.foundation.specs.Parts.{turned_octets}
+use borrow.Author.Rules.{rules}
+use Rattle.foundation.proofs.octets.turned.Goals as goal
+
+
+pub returns : goal.returns
+unfolding turned_octets
+returns c = c.eight.ensures

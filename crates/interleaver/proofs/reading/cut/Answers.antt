@@ -1,0 +1,10 @@
+-- `interleaver::reading::cut` meets its contract.
+-- Assumes nothing.
+use mathlib.Core.Path.{refl}
+use Rattle.interleaver.specs.Reading.{cut_words}
+use borrow.Author.Rules.{rules}
+use Rattle.interleaver.proofs.reading.cut.Goals as goal
+
+
+pub returns : goal.returns
+returns c = ?
