@@ -54,6 +54,9 @@ class Names:
     def step(self, at, old):
         """The new name of the step `old`, at the place `at` or above it."""
         old = re.sub(r"_lem$", "", {"type_size": "size_of"}.get(old, old))
+        m = re.fullmatch(r"fits-?(\d+)", old)
+        if m:
+            old = "fits" if m.group(1) == "2" else f"fits{int(m.group(1)) - 1}"
         seen = set()
         while at is not None and at in self.places and at not in seen:
             seen.add(at)
