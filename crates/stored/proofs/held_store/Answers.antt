@@ -9,6 +9,7 @@ use Rattle.messages.specs.Messages.{most_blocks}
 use Rattle.transactions.specs.Flags.{flagged}
 use Rattle.stored.proofs.HeldStore.{BlocksCopied, blocks-none, blocks-length, block_copied, block-left, blocks-all}
 use Rattle.stored.proofs.held_store.Goals as goal
+use Rattle.stored.proofs.held_store.Goals.{then-is_set, else-is_set}
 
 
 pub loop-n-init : goal.loop-n-init
@@ -22,8 +23,10 @@ loop-n-preserved c =
     let s = sym c.is_set.ensures in
     let h : l.n < most_blocks = c.loop-n-test.true in (
       omega arith,
-      ⊎_elim (λ w. block_copied f c.args.store.now l.n l.held h l.invariant.1 c.if-is_set.held (s ∙ w.0.taken) c.requires (w.5 ∙ w.3.ensures))
-          (λ w. block-left f c.args.store.now l.n l.held h l.invariant.1 c.if-is_set.held (s ∙ w.0.left) w.1) c.if-is_set.branch,
+      elim c.if-is_set.branch [
+        then-is_set w ↦ block_copied f c.args.store.now l.n l.held h l.invariant.1 c.if-is_set.held (s ∙ w.if-is_set.true) c.requires (w.held-is ∙ w.put.ensures)
+      | else-is_set w ↦ block-left f c.args.store.now l.n l.held h l.invariant.1 c.if-is_set.held (s ∙ w.if-is_set.false) w.held-is
+      ],
     )
 
 pub returns : goal.returns

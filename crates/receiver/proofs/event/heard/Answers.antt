@@ -1,11 +1,8 @@
 -- `receiver::event::heard` meets its contract.
 -- Assumes nothing.
 use mathlib.Core.Path.{◌∙◌}
-use borrow.Author.Rules.{rules}
-use borrow.Author.Tests.{not-true, not-false}
 use Rattle.receiver.proofs.Arriving.{by_repeat, by_short, by_opened}
 use Rattle.receiver.proofs.event.heard.Goals as goal
-
 
 pub returns-then-is_repeat : goal.returns-then-is_repeat
 returns-then-is_repeat c =

@@ -2,12 +2,9 @@
 -- Assumes nothing.
 use mathlib.Core.Path.{◌≡◌, sym, ◌∙◌}
 use mathlib.Core.Bool.{true, false}
-use borrow.Author.Rules.{rules}
-use borrow.Author.Tests.{not-true, not-false}
 use Rattle.receiver_state.specs.Receiver.{receiver_good}
 use Rattle.receiver.proofs.BlockNumbers.{receiver-refused, store-refused, block_refused, phase-refused, serial-refused, octets_decide, block_fits}
 use Rattle.receiver.proofs.event.number_of.Goals as goal
-
 
 pub returns-then-not-is_good : goal.returns-then-not-is_good
 returns-then-not-is_good c = let a = c.args in receiver-refused a.rx a.store.now a.block (sym c.is_good.ensures ∙ c.if-not-is_good.true)

@@ -1,13 +1,11 @@
 -- `receiver::event::on_block` meets its contract.
 -- Assumes nothing.
 use mathlib.Core.Path.{sym, ap, ◌∙◌}
-use borrow.Author.Rules.{rules}
 use Rattle.receiver.specs.Events.{BlockLeft}
 use Rattle.receiver.proofs.BlockNumbers.{taken_of, open_fields, block_fits}
 use Rattle.receiver.proofs.OnBlock.{left-refused, left-repeat, left_new}
 use Rattle.receiver.proofs.Claims.{block_promise}
 use Rattle.receiver.proofs.event.on_block.Goals as goal
-
 
 pub returns-then-number-ne0 : goal.returns-then-number-ne0
 returns-then-number-ne0 c =
@@ -39,7 +37,7 @@ taken_block-requires c =
     let x = c.read-block in
     let number = c.number_of-number in
     let t = taken_of a.rx a.store.now x.result (sym number.ensures ∙ c.if-number-ne0.false) in
-    (open_fields a.rx t.good t.opened, c.put_block.auto.0 ∙ t.size)
+    (open_fields a.rx t.good t.opened, c.put_block.auto.store ∙ t.size)
 
 pub returns : goal.returns
 returns c =

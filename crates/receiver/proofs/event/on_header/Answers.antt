@@ -1,12 +1,9 @@
 -- `receiver::event::on_header` meets its contract.
 -- Assumes nothing.
 use mathlib.Core.Path.{sym, ◌∙◌}
-use borrow.Author.Rules.{rules}
-use borrow.Author.Tests.{not-true, not-false}
 use Rattle.receiver.proofs.Arriving.{header_not_good, header_heard, header_unheard}
 use Rattle.receiver.proofs.Claims.{header_promise}
 use Rattle.receiver.proofs.event.on_header.Goals as goal
-
 
 pub returns-then-not-is_good : goal.returns-then-not-is_good
 returns-then-not-is_good c =

@@ -6,8 +6,7 @@ use borrow.Author.Rules.{rules}
 use Rattle.receiver.proofs.StoreBlocks.{put-block}
 use Rattle.receiver.proofs.event.put_block.Goals as goal
 
-
 pub returns : goal.returns
 returns c =
-    let ten : length c.args.t3 ≡ 10 = search rules in
-    c.put.ensures ∙ put-block c.args.store.now c.args.n c.args.t3 c.requires ten
+    let ten : length c.args.octets ≡ 10 = search rules in
+    c.put.ensures ∙ put-block c.args.store.now c.args.n c.args.octets c.requires ten

@@ -1,14 +1,11 @@
 -- `receiver::event::same_block` meets its contract.
 -- Assumes nothing.
-use mathlib.Core.Path.{◌≡◌, refl, sym, ap, ◌∙◌}
-use Prim.Native.Nat.{ℕ, ◌-◌, ◌≤◌}
-use native.Mathlib.Omega.{arith}
-use borrow.Author.Rules.{rules}
+use mathlib.Core.Path.{◌≡◌}
+use Prim.Native.Nat.{◌≤◌}
 use Rattle.foundation.specs.Order.{every}
 use Rattle.transactions.specs.Transactions.{same_data}
-use Rattle.foundation.proofs.Order.{every_stops, every_goes}
 use Rattle.receiver_state.specs.Receiver.{block_at}
-use Rattle.receiver.proofs.StoreBlocks.{same_at, octet_same, octet_differs}
+use Rattle.receiver.proofs.StoreBlocks.{same_at}
 use Rattle.receiver.proofs.event.same_block.Given as goal
 
 abbrev pub invariant-loop-i : goal.invariant-loop-i

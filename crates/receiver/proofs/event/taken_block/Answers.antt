@@ -3,11 +3,8 @@
 use mathlib.Core.Path.{sym, ◌∙◌}
 use native.Mathlib.Omega.{arith}
 use lib.Seq.{length-take-le}
-use borrow.Author.Rules.{rules}
-use borrow.Author.Tests.{not-true, not-false}
 use Rattle.receiver.proofs.Taking.{good-blocks, taken-stored, taken-bad, taken-message}
 use Rattle.receiver.proofs.event.taken_block.Goals as goal
-
 
 pub returns-then-not-all_below : goal.returns-then-not-all_below
 returns-then-not-all_below c =

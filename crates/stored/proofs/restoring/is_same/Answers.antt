@@ -9,6 +9,7 @@ use lib.ListN.{length}
 use Rattle.stored.specs.Parts.{same_octets}
 use Rattle.stored.proofs.StoreReading.{same_stop, same_go}
 use Rattle.stored.proofs.restoring.is_same.Goals as goal
+use Rattle.stored.proofs.restoring.is_same.Goals.{then-a-i, else-a-i}
 
 
 pub loop-i-init : goal.loop-i-init
@@ -19,4 +20,7 @@ pub loop-i-preserved : goal.loop-i-preserved
 loop-i-preserved c =
     let l = c.loop-i in
     let a = c.args in
-    (omega arith, ⊎_elim (λ w. w.1 ∙ same_stop a.a.now a.b.now l.i w.0.taken) (λ w. w.1 ∙ l.invariant.1 ∙ same_go a.a.now a.b.now l.i w.0.left) c.if-a-i.branch)
+    (omega arith, elim c.if-a-i.branch [
+      then-a-i w ↦ w.same-is ∙ same_stop a.a.now a.b.now l.i w.if-a-i.true
+    | else-a-i w ↦ w.same-is ∙ l.invariant.1 ∙ same_go a.a.now a.b.now l.i w.if-a-i.false
+    ])
