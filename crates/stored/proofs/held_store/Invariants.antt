@@ -1,13 +1,9 @@
 -- `stored::held_store` meets its contract: of the first n blocks those held are copied.
 -- Assumes nothing.
-use Prim.Native.Nat.{◌-◌, ◌≤◌, ◌<◌}
-use mathlib.Core.Path.{◌≡◌, sym, ◌∙◌}
-use mathlib.Core.Logic.{⊎_elim}
-use native.Mathlib.Omega.{arith}
-use borrow.Author.Rules.{rules}
+use Prim.Native.Nat.{◌-◌, ◌≤◌}
 use Rattle.messages.specs.Messages.{most_blocks}
 use Rattle.transactions.specs.Flags.{flagged}
-use Rattle.stored.proofs.HeldStore.{BlocksCopied, blocks-none, blocks-length, block_copied, block-left, blocks-all}
+use Rattle.stored.proofs.HeldStore.{BlocksCopied}
 use Rattle.stored.proofs.held_store.Given as goal
 
 abbrev pub invariant-loop-n : goal.invariant-loop-n

@@ -3,12 +3,10 @@
 use mathlib.Core.Path.{sym, ◌∙◌}
 use native.Mathlib.Omega.{arith}
 use borrow.Author.Tests.{eq-eqb, ne_eqb}
-use borrow.Author.Rules.{rules}
 use lib.Seq.{length-take-le}
 use Rattle.stored.specs.Parts.{message_checked}
 use Rattle.stored.proofs.RestoredBack.{fits}
 use Rattle.stored.proofs.restoring.is_checked.Goals as goal
-
 
 pub returns-then-rx-ne2 : goal.returns-then-rx-ne2
 unfolding message_checked

@@ -3,9 +3,7 @@
 use mathlib.Core.Path.{◌∙◌}
 use Rattle.receiver_state.specs.Receiver.{store_size}
 use Rattle.stored.proofs.StoreReading.{clear-same}
-use borrow.Author.Rules.{rules}
 use Rattle.stored.proofs.restoring.is_clear.Goals as goal
-
 
 pub returns : goal.returns
 returns c =

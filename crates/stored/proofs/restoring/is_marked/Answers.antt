@@ -2,9 +2,7 @@
 -- Assumes nothing.
 use native.Mathlib.Omega.{arith}
 use Rattle.stored.proofs.Numbers.{not_marked, marked_by}
-use borrow.Author.Rules.{rules}
 use Rattle.stored.proofs.restoring.is_marked.Goals as goal
-
 
 pub returns-then-first-stamp : goal.returns-then-first-stamp
 returns-then-first-stamp c =

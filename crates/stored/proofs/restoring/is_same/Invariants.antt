@@ -1,13 +1,9 @@
 -- `stored::restoring::is_same` meets its contract: `same` is true where the first i octets are.
 -- Assumes nothing.
 use Prim.Native.Nat.{◌-◌, ◌≤◌}
-use mathlib.Core.Path.{◌≡◌, refl, ap, ◌∙◌}
-use mathlib.Core.Logic.{⊎_elim}
-use native.Mathlib.Omega.{arith}
-use borrow.Author.Rules.{rules}
+use mathlib.Core.Path.{◌≡◌}
 use lib.ListN.{length}
 use Rattle.stored.specs.Parts.{same_octets}
-use Rattle.stored.proofs.StoreReading.{same_stop, same_go}
 use Rattle.stored.proofs.restoring.is_same.Given as goal
 
 abbrev pub invariant-loop-i : goal.invariant-loop-i

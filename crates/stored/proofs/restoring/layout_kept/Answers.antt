@@ -1,11 +1,8 @@
 -- `stored::restoring::layout_kept` meets its contract.
 -- Assumes nothing.
 use mathlib.Core.Path.{sym, ◌∙◌}
-use borrow.Author.Tests.{not-true, not-false}
 use Rattle.stored.proofs.Numbers.{rule_broken, last_rule}
-use borrow.Author.Rules.{rules}
 use Rattle.stored.proofs.restoring.layout_kept.Goals as goal
-
 
 pub returns-then-not-is_marked : goal.returns-then-not-is_marked
 returns-then-not-is_marked c = rule_broken _ _ _ _ 0 (sym c.is_marked.ensures ∙ c.if-not-is_marked.true)

@@ -1,11 +1,8 @@
 -- `stored::restoring::number_of` meets its contract.
 -- Assumes nothing.
 use mathlib.Core.Path.{sym, ◌∙◌}
-use borrow.Author.Tests.{not-true, not-false}
 use Rattle.stored.proofs.Numbers.{check0_bad, check1_bad, layout_broken, by_address}
-use borrow.Author.Rules.{rules}
 use Rattle.stored.proofs.restoring.number_of.Goals as goal
-
 
 pub returns-then-not-header_good : goal.returns-then-not-header_good
 returns-then-not-header_good c =

@@ -2,9 +2,7 @@
 -- Assumes nothing.
 use native.Mathlib.Omega.{arith}
 use Rattle.stored.proofs.StoreReading.{receiver_is}
-use borrow.Author.Rules.{rules}
 use Rattle.stored.proofs.restoring.receiver_in.Goals as goal
-
 
 pub returns : goal.returns
 returns c =

@@ -2,13 +2,11 @@
 -- Assumes nothing.
 use mathlib.Core.Path.{sym, ◌∙◌}
 use native.Mathlib.Omega.{arith}
-use borrow.Author.Tests.{not-true, not-false}
 use Rattle.foundation.proofs.Copying.{put_all}
 use Rattle.stored.proofs.Claims.{claims}
 use Rattle.stored.proofs.Numbers.{first_block, second_block, block_sizes, usable_sizes, number_1, number_read, restored-refused, restored-taken}
 use borrow.Author.Rules.{rules}
 use Rattle.stored.proofs.restoring.restore.Goals as goal
-
 
 pub returns-then-not-usable : goal.returns-then-not-usable
 returns-then-not-usable c =

@@ -8,9 +8,7 @@ use Rattle.receiver_state.specs.Receiver.{store_size}
 use Rattle.foundation.specs.Octets.{put}
 use Rattle.stored.specs.Stored.{first_part}
 use Rattle.stored.proofs.StoreReading.{part1, store_is}
-use borrow.Author.Rules.{rules}
 use Rattle.stored.proofs.restoring.store_in.Goals as goal
-
 
 pub returns : goal.returns
 returns c =

@@ -4,7 +4,6 @@ use borrow.Author.Rules.{rules}
 use Rattle.stored.proofs.SaveLaw.{head_is}
 use Rattle.stored.proofs.saving.head.Goals as goal
 
-
 pub returns : goal.returns
 returns c =
     let a = c.args in

@@ -2,7 +2,6 @@
 -- Assumes nothing.
 use mathlib.Core.Path.{◌≡◌, sym, ◌∙◌}
 use native.Mathlib.Omega.{arith}
-use borrow.Author.Tests.{not-true, not-false}
 use lib.ListN.{length}
 use lib.Seq.{length-take-le}
 use Rattle.transactions.specs.Flags.{flag_octet_count}
@@ -14,7 +13,6 @@ use Rattle.stored.proofs.Numbers.{usable_sizes, save_refused, save_taken}
 use Rattle.stored.proofs.SaveLaw.{written}
 use borrow.Author.Rules.{rules}
 use Rattle.stored.proofs.saving.save.Goals as goal
-
 
 pub returns-then-not-usable : goal.returns-then-not-usable
 returns-then-not-usable c =
