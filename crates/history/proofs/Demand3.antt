@@ -9,7 +9,7 @@ use Rattle.addresses.specs.declared.RadioAddress.{RadioAddress}
 use Rattle.receiver_state.specs.Receiver.{store_size}
 use Rattle.stored.specs.Claims.{Savable}
 use Rattle.history.specs.History.{Event, header, block, ended, History, nothing, after, said_to, history_from, said_from}
-use Rattle.history.specs.Run.{Action, event, restart, State, after_event, answer_to, answers, left, events}
+use Rattle.history.specs.Run.{Action, event, restart, State, after_event, answer_to, answers, left, events, after_restart}
 use Rattle.history.specs.Claims.{Octets, Possible, fresh_state, Demand3}
 use Rattle.history.proofs.Sound.{sound_header, sound_block}
 use Rattle.history.proofs.Follows.{Follows, fresh_follows, can_be_saved}
@@ -45,12 +45,12 @@ module _ (own : RadioAddress) where
   unfolding answers left events said_from history_from
   runs s p [] o m = record { same = refl; follows = m }
   runs s p (event (header h) ∷ rest) o m =
-      event-first own s p m (header h) o.0 rest (runs _ _ rest o.1 (event-step own s p m (header h) o.0).follows)
+      event-first own s p m (header h) o.0 rest (runs (after_event s (header h)) (after own p (header h)) rest o.1 (event-step own s p m (header h) o.0).follows)
   runs s p (event (block b) ∷ rest) o m =
-      event-first own s p m (block b) o.0 rest (runs _ _ rest o.1 (event-step own s p m (block b) o.0).follows)
-  runs s p (event ended ∷ rest) o m = event-first own s p m ended tt rest (runs _ _ rest o (event-step own s p m ended tt).follows)
+      event-first own s p m (block b) o.0 rest (runs (after_event s (block b)) (after own p (block b)) rest o.1 (event-step own s p m (block b) o.0).follows)
+  runs s p (event ended ∷ rest) o m = event-first own s p m ended tt rest (runs (after_event s ended) (after own p ended) rest o (event-step own s p m ended tt).follows)
   runs s p (restart s0 s1 store ∷ rest) o m =
-      let r = runs _ p rest o.1 (restart_follows own s p m s0 s1 store o.0) in
+      let r = runs (after_restart s s0 s1 store) p rest o.1 (restart_follows own s p m s0 s1 store o.0) in
       record { same = r.same; follows = r.follows }
 
 module _ (own : RadioAddress) (store : List ℕ) (actions : List Action) (small : own.0 < 2 ^ 24)
