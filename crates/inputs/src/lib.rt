@@ -1,7 +1,8 @@
 // What a program reads: octets behind those that it has kept, and the rest of them moved to the front.
 #![tactic(auto)]
 
-ghost use Rattle.std.specs.Prelude.{◌≡◌, ◌+◌, ◌-◌, ◌≤◌, length, drop};
+ghost use Rattle.std.specs.Prelude.{◌≡◌, ◌+◌, ◌-◌, ◌≤◌, ◌<◌, false, length, take, drop};
+ghost use Rattle.std.specs.Io.KnownBytes.{Consumes, IsAtEnd};
 ghost use Rattle.foundation.specs.Octets.{put};
 ghost use Rattle.inputs.specs.Inputs.{ReadBehind};
 
@@ -16,7 +17,9 @@ pub struct Reading {
 
 // What there is to read, put behind the first octets, which stay.
 pub fn read_behind<R: Read>(reader: &mut R, input: &mut [u8], first: usize) -> Reading
-    ensures { ReadBehind input.old first result input.new }
+    ensures behind { ReadBehind input.old first result input.new }
+    ensures taken { Consumes (R.remaining reader.old) (R.remaining reader.new) (drop first (take result.size input.new)) }
+    ensures ended { result.failed ≡ false → result.size ≡ first → first < length input.old → IsAtEnd (R.remaining reader.new) }
 {
     if input.len() < first {
         return Reading {
@@ -38,7 +41,9 @@ pub fn read_behind<R: Read>(reader: &mut R, input: &mut [u8], first: usize) -> R
 
 // Reads until the octets are filled, the input ends or can't be read.
 pub fn fill<R: Read>(reader: &mut R, octets: &mut [u8]) -> Reading
-    ensures { result.size ≤ length octets.new }
+    ensures inside { result.size ≤ length octets.new }
+    ensures taken { Consumes (R.remaining reader.old) (R.remaining reader.new) (take result.size octets.new) }
+    ensures ended { result.failed ≡ false → result.size < length octets.new → IsAtEnd (R.remaining reader.new) }
 {
     let mut size: usize = 0;
     while size < octets.len() {
