@@ -3,26 +3,29 @@
 #![tactic(auto)]
 
 use captures::Listing;
+use std::env::{Env, FillError};
 
-fn main() {
-    if 1 < os::arg_count() {
-        io::write_all(libc::STDERR_FILENO, b"usage: gateway < CAPTURE\n");
+fn main(rt: HostRuntime) {
+    if !matches!(rt.arg(1, &mut [0u8; 1]), Err(FillError::NotPresent)) {
+        let _ = eprintln!(rt; "usage: gateway < CAPTURE");
         return;
     }
+    let mut from = rt.stdin();
+    let mut to = rt.stdout();
     let mut own = [0u8; 3];
-    let first = inputs::fill(&mut own);
+    let first = inputs::fill(&mut from, &mut own);
     if first.failed {
-        os::fail(b"gateway: standard input can't be read");
+        let _ = eprintln!(rt; "gateway: standard input can't be read");
         return;
     }
     let size = first.size;
-    let e = listings::run(Listing::Numbers, &own[..size]);
+    let e = listings::run(&mut from, &mut to, Listing::Numbers, &own[..size]);
     if e.whole {
         return;
     }
     if e.unread {
-        os::fail(b"gateway: standard input can't be read");
+        let _ = eprintln!(rt; "gateway: standard input can't be read");
         return;
     }
-    os::fail(b"gateway: standard output can't be written");
+    let _ = eprintln!(rt; "gateway: standard output can't be written");
 }

@@ -1,9 +1,12 @@
-// What a program reads from standard input: octets behind those that it has kept, and the rest of them moved to the front.
+// What a program reads: octets behind those that it has kept, and the rest of them moved to the front.
 #![tactic(auto)]
 
-ghost use Rattle.std.specs.Prelude.{◌≡◌, ◌+◌, ◌-◌, ◌≤◌, length, drop};
+ghost use Rattle.std.specs.Prelude.{◌≡◌, ◌+◌, ◌-◌, ◌≤◌, ◌<◌, false, length, take, drop};
+ghost use Rattle.std.specs.Io.KnownBytes.{Consumes, IsAtEnd};
 ghost use Rattle.foundation.specs.Octets.{put};
 ghost use Rattle.inputs.specs.Inputs.{ReadBehind};
+
+use std::io::Read;
 
 // How many octets there are now, and whether the input could not be read. Where it could, and there are no more, it has ended.
 #[derive(Drop)]
@@ -12,9 +15,11 @@ pub struct Reading {
     pub failed: bool,
 }
 
-// What there is to read, put behind the first octets, which stay. What is read no contract can say.
-pub fn read_behind(input: &mut [u8], first: usize) -> Reading
-    ensures { ReadBehind input.old first result input.new }
+// What there is to read, put behind the first octets, which stay.
+pub fn read_behind<R: Read>(reader: &mut R, input: &mut [u8], first: usize) -> Reading
+    ensures behind { ReadBehind input.old first result input.new }
+    ensures taken { Consumes (R.remaining reader.old) (R.remaining reader.new) (drop first (take result.size input.new)) }
+    ensures ended { result.failed ≡ false → result.size ≡ first → first < length input.old → IsAtEnd (R.remaining reader.new) }
 {
     if input.len() < first {
         return Reading {
@@ -22,27 +27,27 @@ pub fn read_behind(input: &mut [u8], first: usize) -> Reading
             failed: true,
         };
     }
-    let got = libc::read(libc::STDIN_FILENO, &mut input[first..]);
-    if got < 0 {
-        return Reading {
+    match reader.read(&mut input[first..]) {
+        Ok(more) => Reading {
+            size: first + more,
+            failed: false,
+        },
+        Err(_) => Reading {
             size: first,
             failed: true,
-        };
-    }
-    let more = io::count(got, &input[first..]);
-    Reading {
-        size: first + more,
-        failed: false,
+        },
     }
 }
 
 // Reads until the octets are filled, the input ends or can't be read.
-pub fn fill(octets: &mut [u8]) -> Reading
-    ensures { result.size ≤ length octets.new }
+pub fn fill<R: Read>(reader: &mut R, octets: &mut [u8]) -> Reading
+    ensures inside { result.size ≤ length octets.new }
+    ensures taken { Consumes (R.remaining reader.old) (R.remaining reader.new) (take result.size octets.new) }
+    ensures ended { result.failed ≡ false → result.size < length octets.new → IsAtEnd (R.remaining reader.new) }
 {
     let mut size: usize = 0;
     while size < octets.len() {
-        let r = read_behind(octets, size);
+        let r = read_behind(reader, octets, size);
         if r.failed {
             return r;
         }

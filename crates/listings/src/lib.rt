@@ -1,4 +1,4 @@
-// A capture on standard input, listed on standard output: what the programs gateway and delivered have in common.
+// A capture that is read, listed as it comes: what the programs gateway and delivered have in common.
 #![tactic(auto)]
 
 ghost use Rattle.std.specs.Prelude.{◌≡◌, ◌+◌, ◌%◌, ◌^◌, ◌≤◌, false, length};
@@ -10,6 +10,7 @@ ghost use Rattle.listings.specs.Parts.{ListTurn};
 use captures::{Gateway, Listing};
 use counting::Counts;
 use receiver_state::STORE;
+use std::io::{Read, Write};
 
 // Octets that are read at a time (1,024 datagrams), and of text that are written at a time.
 const INPUT: usize = 54272;
@@ -31,9 +32,15 @@ pub struct Turn {
     pub written: bool,
 }
 
+// Writes a text, and keeps nothing of it back. Says whether it could.
+fn put<W: Write>(to: &mut W, text: &[u8]) -> bool {
+    to.write_all(text).is_ok() && to.flush().is_ok()
+}
+
 // Answers the datagrams that have come, as many as there is room for: writes their lines, and keeps in front the octets that are not answered
 // yet.
-fn answer(
+fn answer<W: Write>(
+    to: &mut W,
     listing: Listing,
     g: Gateway,
     store: &mut [u8],
@@ -47,7 +54,7 @@ fn answer(
 {
     let listed = captures::list(listing, g, store, &input[..size], last, text);
     let end = listed.end;
-    let written = io::write_all(libc::STDOUT_FILENO, &text[..end]);
+    let written = put(to, &text[..end]);
     let kept = inputs::to_front(&mut input[..size], listed.taken);
     let gateway = listed.gateway;
     Turn {
@@ -69,12 +76,12 @@ pub struct Ended {
 }
 
 // Writes the last line.
-fn close(listing: Listing, c: Counts, read: u64, written: u64) -> Ended
+fn close<W: Write>(to: &mut W, listing: Listing, c: Counts, read: u64, written: u64) -> Ended
     ensures { (result.read ≡ read) × (result.written ≡ (written + length (closing listing c)) % 2 ^ 64) }
 {
     let mut text = [0u8; END];
     let end = captures::close(listing, c, &mut text);
-    let whole = io::write_all(libc::STDOUT_FILENO, &text[..end]);
+    let whole = put(to, &text[..end]);
     Ended {
         read,
         written: std::num::wrapping_add_u64(written, end as u64),
@@ -97,7 +104,7 @@ fn stopped(read: u64, written: u64, unread: bool) -> Ended
 
 // Each datagram is answered when its last octet is read: more is read only when none of those that have come is left. A proved loop has to end,
 // and nothing says that the input does: the turns are counted down from a number that no run uses up.
-fn list_all(listing: Listing, own: &[u8]) -> Ended
+fn list_all<R: Read, W: Write>(from: &mut R, to: &mut W, listing: Listing, own: &[u8]) -> Ended
     requires { 3 ≤ length own.now }
     ensures { WritesListing listing own.now result }
 {
@@ -112,7 +119,7 @@ fn list_all(listing: Listing, own: &[u8]) -> Ended
     let mut turns = u64::MAX;
     while 0 < turns {
         turns -= 1;
-        let t = answer(listing, now, &mut store, &mut input, size, last, &mut text);
+        let t = answer(to, listing, now, &mut store, &mut input, size, last, &mut text);
         if !t.written {
             return stopped(read, written, false);
         }
@@ -123,9 +130,9 @@ fn list_all(listing: Listing, own: &[u8]) -> Ended
             continue;
         }
         if last {
-            return close(listing, now.counts, read, written);
+            return close(to, listing, now.counts, read, written);
         }
-        let reading = inputs::read_behind(&mut input, size);
+        let reading = inputs::read_behind(from, &mut input, size);
         if reading.failed {
             break;
         }
@@ -136,12 +143,12 @@ fn list_all(listing: Listing, own: &[u8]) -> Ended
     stopped(read, written, true)
 }
 
-// Reads standard input behind the own address and writes the listing. Where the address is cut short there is nothing but the last line.
-pub fn run(listing: Listing, own: &[u8]) -> Ended
+// Reads what is behind the own address and writes the listing. Where the address is cut short there is nothing but the last line.
+pub fn run<R: Read, W: Write>(from: &mut R, to: &mut W, listing: Listing, own: &[u8]) -> Ended
     ensures { WritesListing listing own.now result }
 {
     if own.len() < ADDRESS {
-        return close(listing, counting::none(), 0, 0);
+        return close(to, listing, counting::none(), 0, 0);
     }
-    list_all(listing, own)
+    list_all(from, to, listing, own)
 }

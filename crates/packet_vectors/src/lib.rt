@@ -10,9 +10,13 @@ mod burst_cases;
 mod packet_cases;
 mod receiver_cases;
 
+use std::io::Write;
+
 // Writes a line for each case and counts on from t. It also promises that the definitions give the worked examples of PExamples.
-pub fn cases(t: report::Tally) -> report::Tally
+pub fn cases<W: Write>(out: &mut W, mut t: report::Tally) -> report::Tally
     ensures { (result.cases ≡ (t.cases + 52) % 2 ^ 32) × PExamples }
 {
-    receiver_cases::cases(burst_cases::cases(packet_cases::cases(t)))
+    t = packet_cases::cases(out, t);
+    t = burst_cases::cases(out, t);
+    receiver_cases::cases(out, t)
 }

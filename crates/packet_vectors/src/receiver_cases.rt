@@ -6,6 +6,7 @@ use messages::response::ResponseOctets;
 use receiver::event::Answer;
 use receiver_state::{Receiver, STORE};
 use report::Tally;
+use std::io::Write;
 use transactions::header::Transaction;
 
 // The response of a receiver that has 0 and 2 of three blocks, N(S) 5 and SAP 4, from 1a0b0c to 002104.
@@ -49,21 +50,22 @@ fn looped(store: &mut [u8]) -> u32 {
 }
 
 // The octets that stand in front in a store.
-fn front(t: Tally, subject: &[u8], text: &[u8], store: &[u8], expected: &[u8]) -> Tally
+fn front<W: Write>(out: &mut W, t: Tally, subject: &[u8], text: &[u8], store: &[u8], expected: &[u8]) -> Tally
     ensures { result.cases ≡ (t.cases + 1) % 2 ^ 32 }
 {
     let n = expected.len();
     if store.len() < n {
-        return report::octets(t, subject, text, store, expected);
+        return report::octets(out, t, subject, text, store, expected);
     }
-    report::octets(t, subject, text, &store[..n], expected)
+    report::octets(out, t, subject, text, &store[..n], expected)
 }
 
-fn responses(mut t: Tally) -> Tally
+fn responses<W: Write>(out: &mut W, mut t: Tally) -> Tally
     ensures { result.cases ≡ (t.cases + 2) % 2 ^ 32 }
 {
     let r = response();
     t = report::octets(
+        out,
         t,
         b"end of attempt, block 1 of 3 missing",
         b"",
@@ -71,6 +73,7 @@ fn responses(mut t: Tally) -> Tally
         b"\x01\x40\x1A\x0B\x0C\x00\x21\x04\x01\x85\x80\x8D",
     );
     report::octets(
+        out,
         t,
         b"its data block",
         b"",
@@ -79,13 +82,14 @@ fn responses(mut t: Tally) -> Tally
     )
 }
 
-fn messages(mut t: Tally) -> Tally
+fn messages<W: Write>(out: &mut W, mut t: Tally) -> Tally
     ensures { result.cases ≡ (t.cases + 2) % 2 ^ 32 }
 {
     let mut store = [0u8; STORE];
     let n = looped(&mut store);
-    t = report::number(t, b"TARE -12.5 mm, octets handed on", b"", 1, n, 13);
+    t = report::number(out, t, b"TARE -12.5 mm, octets handed on", b"", 1, n, 13);
     front(
+        out,
         t,
         b"the message in the store",
         b"",
@@ -94,8 +98,9 @@ fn messages(mut t: Tally) -> Tally
     )
 }
 
-pub fn cases(t: Tally) -> Tally
+pub fn cases<W: Write>(out: &mut W, mut t: Tally) -> Tally
     ensures { result.cases ≡ (t.cases + 4) % 2 ^ 32 }
 {
-    messages(responses(t))
+    t = responses(out, t);
+    messages(out, t)
 }

@@ -9,6 +9,8 @@ ghost use Rattle.replay.specs.Reports.{WritesReport};
 ghost use Rattle.replay.specs.Parts.{ReplayTurn};
 
 use receiver_state::{Receiver, STORE};
+use std::env::{Env, FillError};
+use std::io::{Read, Write};
 
 // The octets of the longest record, so that one that has come whole always fits; and of text that are written at a time.
 const INPUT: usize = 65538;
@@ -28,9 +30,15 @@ struct Turn {
     written: bool,
 }
 
+// Writes a text, and keeps nothing of it back. Says whether it could.
+fn put<W: Write>(to: &mut W, text: &[u8]) -> bool {
+    to.write_all(text).is_ok() && to.flush().is_ok()
+}
+
 // Answers the records that have come, as many as there is room for: writes their lines, and keeps in front the octets that are not answered
 // yet.
-fn answer(
+fn answer<W: Write>(
+    to: &mut W,
     rx: Receiver,
     store: &mut [u8],
     input: &mut [u8],
@@ -43,7 +51,7 @@ fn answer(
 {
     let replayed = replays::replay(rx, store, &input[..size], last, text);
     let end = replayed.end;
-    let written = io::write_all(libc::STDOUT_FILENO, &text[..end]);
+    let written = put(to, &text[..end]);
     let kept = inputs::to_front(&mut input[..size], replayed.taken);
     let receiver = replayed.receiver;
     Turn {
@@ -77,7 +85,7 @@ fn finish(read: u64, written: u64, whole: bool, unread: bool) -> Ended
 
 // Each record is answered when its last octet is read: more is read only when none of those that have come is left. A proved loop has to end,
 // and nothing says that the input does: the turns are counted down from a number that no run uses up.
-fn report_all(own: &[u8]) -> Ended
+fn report_all<R: Read, W: Write>(from: &mut R, to: &mut W, own: &[u8]) -> Ended
     requires { 3 ≤ length own.now }
     ensures { WritesReport own.now result }
 {
@@ -92,7 +100,7 @@ fn report_all(own: &[u8]) -> Ended
     let mut turns = u64::MAX;
     while 0 < turns {
         turns -= 1;
-        let t = answer(now, &mut store, &mut input, size, last, &mut text);
+        let t = answer(to, now, &mut store, &mut input, size, last, &mut text);
         if !t.written {
             return finish(read, written, false, false);
         }
@@ -105,7 +113,7 @@ fn report_all(own: &[u8]) -> Ended
         if last {
             return finish(read, written, true, false);
         }
-        let reading = inputs::read_behind(&mut input, size);
+        let reading = inputs::read_behind(from, &mut input, size);
         if reading.failed {
             break;
         }
@@ -116,35 +124,37 @@ fn report_all(own: &[u8]) -> Ended
     finish(read, written, false, true)
 }
 
-// Reads standard input behind the own address and writes the report. Where the address is cut short there is none.
-fn run(own: &[u8]) -> Ended
+// Reads what is behind the own address and writes the report. Where the address is cut short there is none.
+fn run<R: Read, W: Write>(from: &mut R, to: &mut W, own: &[u8]) -> Ended
     ensures { WritesReport own.now result }
 {
     if own.len() < ADDRESS {
         return finish(0, 0, true, false);
     }
-    report_all(own)
+    report_all(from, to, own)
 }
 
-fn main() {
-    if 1 < os::arg_count() {
-        io::write_all(libc::STDERR_FILENO, b"usage: replay < LOG\n");
+fn main(rt: HostRuntime) {
+    if !matches!(rt.arg(1, &mut [0u8; 1]), Err(FillError::NotPresent)) {
+        let _ = eprintln!(rt; "usage: replay < LOG");
         return;
     }
+    let mut from = rt.stdin();
+    let mut to = rt.stdout();
     let mut own = [0u8; 3];
-    let first = inputs::fill(&mut own);
+    let first = inputs::fill(&mut from, &mut own);
     if first.failed {
-        os::fail(b"replay: standard input can't be read");
+        let _ = eprintln!(rt; "replay: standard input can't be read");
         return;
     }
     let size = first.size;
-    let e = run(&own[..size]);
+    let e = run(&mut from, &mut to, &own[..size]);
     if e.whole {
         return;
     }
     if e.unread {
-        os::fail(b"replay: standard input can't be read");
+        let _ = eprintln!(rt; "replay: standard input can't be read");
         return;
     }
-    os::fail(b"replay: standard output can't be written");
+    let _ = eprintln!(rt; "replay: standard output can't be written");
 }

@@ -1,6 +1,6 @@
 -- How a case is counted.
 -- Assumes nothing.
-use Rattle.std.specs.Prelude.{◌≡◌, ℕ, ◌+◌, ◌%◌, ◌^◌, false, ◌≢◌}
+use Rattle.std.specs.Prelude.{◌≡◌, ◌+◌, ◌%◌, ◌^◌, false, ◌≢◌}
 use Rattle.report.specs.declared.Tally.{Tally}
 
 -- r is t after a case: one more, and one more wrong unless its value is what is expected. What could not be written once stays so

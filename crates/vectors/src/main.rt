@@ -8,21 +8,25 @@ mod block_fields;
 mod check_cases;
 mod slot_types;
 
-fn main() {
-    if os::arg_count() > 1 {
-        io::write_all(libc::STDERR_FILENO, b"usage: vectors\n");
+use std::env::{Env, FillError};
+
+fn main(rt: HostRuntime) {
+    if !matches!(rt.arg(1, &mut [0u8; 1]), Err(FillError::NotPresent)) {
+        let _ = eprintln!(rt; "usage: vectors");
         return;
     }
+    let mut out = rt.stdout();
     let none = report::Tally {
         cases: 0,
         wrong: 0,
         written: true,
     };
-    let slots = slot_types::cases(none);
-    let fields = block_fields::cases(slots);
-    let codes = check_cases::cases(fields);
-    let all = report::close(packet_vectors::cases(codes));
+    let slots = slot_types::cases(&mut out, none);
+    let fields = block_fields::cases(&mut out, slots);
+    let codes = check_cases::cases(&mut out, fields);
+    let packets = packet_vectors::cases(&mut out, codes);
+    let all = report::close(&mut out, packets);
     if !all.written {
-        os::fail(b"vectors: standard output");
+        let _ = eprintln!(rt; "vectors: standard output");
     }
 }
