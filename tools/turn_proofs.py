@@ -52,6 +52,7 @@ class Names:
 
     def step(self, at, old):
         """The new name of the step `old`, at the place `at` or above it."""
+        old = re.sub(r"_lem$", "", old)
         seen = set()
         while at is not None and at in self.places and at not in seen:
             seen.add(at)
@@ -81,6 +82,7 @@ class Names:
             new = self.step(at, name)
             return f"{m.group(1)}.{new or name}"
 
+        text = text.replace(".type-inv", ".type_inv").replace(".well-formed", ".well_formed")
         text = re.sub(r"(?<![\w.'-])([\w']+)((?:\.before)*)\.([\w-]+)", turn, text).replace("!.given", "")
         return self.fields(text)
 
@@ -116,6 +118,20 @@ class Names:
         text = re.sub(r"(?<![\w.'-])(c)\.([\w-]+)\.new\.(\d+)", left, text)
         return re.sub(r"(?<![\w.'-])([\w']+)()\.new\.(\d+)", left, text)
 
+def arrays_of(key):
+    """The array parameters of a function of this crate, in order: the older proofs call them t1, t2 and so on."""
+    parts = folder_of(key).split("/")
+    for root, _, names in os.walk(os.path.join(FOLDER, "src")):
+        for name in names:
+            text = open(os.path.join(root, name), encoding="utf-8").read()
+            if len(parts) > 1 and name[:-3] != parts[-2]:
+                continue
+            m = re.search(r"fn " + re.escape(parts[-1]) + r"\(([^)]*)\)", text)
+            if m:
+                return [p.split(":")[0].strip().split()[-1] for p in re.split(r",(?![^\[]*\])", m.group(1)) if ":" in p and p.split(":", 1)[1].strip().startswith("[")]
+    return []
+
+
 def lent_by(callee):
     """The parameters of a function of this repository that are lent as &mut, in order."""
     parts = callee.split("::")
@@ -132,11 +148,6 @@ def lent_by(callee):
             if m:
                 return [p.split(":")[0].strip().split()[-1] for p in re.split(r",(?![^<\[(]*[>\])])", m.group(1)) if "&" in p and "mut " in p.split(":", 1)[1]]
     return []
-
-
-def trivial(body):
-    body = re.sub(r"\s+", " ", body.split("=", 1)[1]).strip() if "=" in body else body
-    return re.fullmatch(r"search \w+|omega arith|tt|refl|\(?(omega arith|search \w+)(, (omega arith|search \w+))*\)?", body) is not None
 
 
 def uses(head):
@@ -174,6 +185,9 @@ def invariants(folder, key, it):
                 new = "l.initial." + a[:-1]
             else:
                 new = "l." + a
+            if re.search(r"[λ(] ?" + re.escape(a) + r"(\.| :)", rest):
+                print(f"look: {folder_of(key)}: {kind}-{old} binds {a}")
+                continue
             rest = re.sub(r"(?<![\w.'₀-])" + re.escape(a) + r"(?![\w'₀-])", new.replace("\\", ""), rest)
         name = f"{kind}-{loops[norm(old)]}"
         said += ["", f"abbrev pub {name} : goal.{name}", f"{name} l ={rest}"]
@@ -207,8 +221,11 @@ def answers(folder, key, it, opened):
                 if old in names.needs:
                     at = names.asked[old]
                     turned = names.term(at, body)
+                    turned = re.sub(r"\(?not-(?:true|false) (?:_|\([^()]*\)|\S+) ([\w']+\.if-not-[\w-]+\.(?:true|false))\)?", r"\1", turned)
+                    for n, a in enumerate(arrays_of(key), 1):
+                        turned = re.sub(rf"(\.args|\ba)\.t{n}(?![\w'-])", rf"\1.{a}", turned)
                     turned = re.sub(r"(?m)^" + re.escape(d[0]) + r" c(?: κs)?(?= )", f"{names.needs[old]} c", turned)
-                    given[names.needs[old]] = (turned, trivial(body), d[2])
+                    given[names.needs[old]] = (turned, d[2])
                     break
         elif not re.match(r"tie\.|\{M|.*statement M", d[1]) and not d[0].endswith(("_spec", "-spec")):
             helpers += [d[3]] + d[2]
@@ -216,7 +233,7 @@ def answers(folder, key, it, opened):
     for goal in wanted:
         base = re.sub(r"-clause-\w+$", "", goal)
         hit = given.get(goal) or given.get(base)
-        if hit and not hit[1]:
+        if hit:
             out += ["", f"pub {goal} : goal.{goal}", hit[0].replace(f"{base} c", f"{goal} c", 1)]
         else:
             out += ["", f"pub {goal} : goal.{goal}", f"{goal} c = ?"]

@@ -6,4 +6,5 @@ use Rattle.folds.proofs.block.entered.Goals as goal
 
 
 pub returns : goal.returns
-returns c = ?
+unfolding block_entered
+returns c = refl

@@ -6,4 +6,5 @@ use Rattle.folds.proofs.block.to_36.Goals as goal
 
 
 pub returns : goal.returns
-returns c = ?
+unfolding block_halved
+returns c = refl

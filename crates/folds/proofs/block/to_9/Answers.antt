@@ -7,4 +7,5 @@ use Rattle.folds.proofs.block.to_9.Goals as goal
 
 
 pub returns : goal.returns
-returns c = ?
+unfolding block_halved
+returns c = refl

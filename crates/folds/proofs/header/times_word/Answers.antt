@@ -6,4 +6,5 @@ use Rattle.folds.proofs.header.times_word.Goals as goal
 
 
 pub returns : goal.returns
-returns c = ?
+unfolding header_times
+returns c = refl

@@ -6,4 +6,5 @@ use Rattle.folds.proofs.header.to_16.Goals as goal
 
 
 pub returns : goal.returns
-returns c = ?
+unfolding header_halved
+returns c = refl

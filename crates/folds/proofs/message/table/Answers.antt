@@ -7,4 +7,5 @@ use Rattle.folds.proofs.message.table.Goals as goal
 
 
 pub returns : goal.returns
-returns c = ?
+unfolding divide reduce message_table
+returns c = refl

@@ -6,4 +6,5 @@ use Rattle.interleaver.proofs.lanes.high_4.Goals as goal
 
 
 pub returns : goal.returns
-returns c = ?
+unfolding crossed_high
+returns c = refl

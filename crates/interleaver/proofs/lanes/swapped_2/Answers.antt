@@ -6,4 +6,5 @@ use Rattle.interleaver.proofs.lanes.swapped_2.Goals as goal
 
 
 pub returns : goal.returns
-returns c = ?
+unfolding swapped
+returns c = refl

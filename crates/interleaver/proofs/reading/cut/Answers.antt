@@ -7,4 +7,5 @@ use Rattle.interleaver.proofs.reading.cut.Goals as goal
 
 
 pub returns : goal.returns
-returns c = ?
+unfolding cut_words
+returns c = refl

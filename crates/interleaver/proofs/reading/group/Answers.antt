@@ -6,4 +6,5 @@ use Rattle.interleaver.proofs.reading.group.Goals as goal
 
 
 pub returns : goal.returns
-returns c = ?
+unfolding grouped
+returns c = refl

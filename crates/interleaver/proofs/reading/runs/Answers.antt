@@ -6,4 +6,5 @@ use Rattle.interleaver.proofs.reading.runs.Goals as goal
 
 
 pub returns : goal.returns
-returns c = ?
+unfolding runs_of
+returns c = refl

@@ -7,4 +7,5 @@ use Rattle.interleaver.proofs.writing.five_runs.Goals as goal
 
 
 pub returns : goal.returns
-returns c = ?
+unfolding five_runs
+returns c = refl

@@ -19,4 +19,4 @@ returns c =
     let e = c.five_runs-c in
     c.field_of.ensures
     ∙ octets-sent c.args.m x.result (x.ensures ∙ ap turned_square (c.groups.ensures ∙ ap groups_of c.words.ensures)) a.result b.result e.result (up 60 (x.result.a / 2 ^ 48))
-    (omega (arith, a.type-inv)) (omega (arith, b.type-inv)) (omega (arith, e.type-inv)) (omega arith) a.ensures b.ensures e.ensures refl
+    (omega (arith, a.type_inv)) (omega (arith, b.type_inv)) (omega (arith, e.type_inv)) (omega arith) a.ensures b.ensures e.ensures refl

@@ -6,4 +6,5 @@ use Rattle.interleaver.proofs.writing.spread.Goals as goal
 
 
 pub returns : goal.returns
-returns c = ?
+unfolding spread_word
+returns c = refl

@@ -7,4 +7,5 @@ use Rattle.interleaver.proofs.writing.words.Goals as goal
 
 
 pub returns : goal.returns
-returns c = ?
+unfolding fifteen
+returns c = refl

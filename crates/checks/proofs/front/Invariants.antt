@@ -1,0 +1,15 @@
+-- `checks::front` meets its contract.
+-- Assumes nothing.
+use borrow.Author.Rules.{rules}
+use mathlib.Core.Path.{◌≡◌, refl, ap, ◌∙◌}
+use Prim.Native.Nat.{ℕ, ◌*◌, ◌-◌, ◌≤◌}
+use native.Mathlib.Omega.{arith}
+use Rattle.foundation.specs.Bits.{octet_bit, value_of}
+use Rattle.checks.proofs.HeaderChecks.{front-lt, front_more}
+use Rattle.checks.proofs.front.Given as goal
+
+abbrev pub invariant-loop-j : goal.invariant-loop-j
+invariant-loop-j l = (l.j ≤ l.k) × (l.w ≡ value_of (octet_bit l.octets) 0 (8 * l.j))
+
+abbrev pub decreases-loop-j : goal.decreases-loop-j
+decreases-loop-j l = l.k - l.j

@@ -1,0 +1,18 @@
+-- `checks::message_octets` meets its contract.
+-- Assumes nothing.
+use mathlib.Core.Path.{sym, ap, subst}
+use mathlib.Core.List.{List}
+use Prim.Native.Nat.{ℕ}
+use borrow.Author.Rules.{rules}
+use Rattle.checks.specs.Checks.{lowest_first}
+use Rattle.checks.specs.Claims.{MessageCarries}
+use Rattle.checks.proofs.Claims.{claims}
+use Rattle.checks.proofs.message_octets.Goals as goal
+
+
+pub returns : goal.returns
+unfolding lowest_first
+returns c =
+    let os = c.args.octets.now in
+    let is = ap lowest_first c.message-c.ensures in
+    (is, subst (λ (x : List ℕ). MessageCarries os x) (sym is) (claims.message os))
