@@ -41,6 +41,7 @@ class Names:
         self.needs = {norm(o): n for o, n in it["needs"]}
         self.asked = {norm(o[0]): p[0] for o, p in zip(it["needs"], it["asked_at"])}
         self.places = {p[0]: p for p in it["places"]}
+        self.arms = {p[0]: k for p, k in zip(it["places"], it["arms"])}
         self.clauses = {}
         self.callee = {}
         for p, k in zip(it["places"], it["clauses"]):
@@ -65,6 +66,21 @@ class Names:
                 return p[2][1]
         return None
 
+    def arm(self, at, old, path):
+        """What an arm of a match calls the field that went by the step `old` and a path: its new name, and how much of the path it took."""
+        old = re.sub(r"_lem$", "", old)
+        best = None
+        while at is not None and at in self.places:
+            p = self.places[at]
+            k = self.arms.get(at)
+            for new, step, was in (k[2] if k else []):
+                if norm(step) == norm(old) and was == path[: len(was)] and (best is None or len(was) > best[1]):
+                    best = (f"{k[0]}.{new}", len(was))
+            if best:
+                return best
+            at = p[1]
+        return None
+
     def term(self, at, text):
         alias = {"c"}
         for m in re.finditer(r"let ([\w']+)(?: : [^=]*)? = c(?:\.before)+ in", text):
@@ -72,18 +88,31 @@ class Names:
         text = re.sub(r"(let [\w']+(?: : [^=]*)? = c)(?:\.before)+ in", r"\1 in", text)
 
         def turn(m):
-            if m.group(1) not in alias:
+            head, name, rest = m.group(1), m.group(3), m.group(4)
+            if head not in alias:
                 return m.group()
-            name = m.group(3)
             if name in ("args", "requires", "ranges", "before", "given", "utf8", "lifetimes", "type_inv", "auto"):
-                return f"{m.group(1)}.{name}"
-            if norm(name) in self.typed and text[m.end():].startswith(".given"):
-                return f"{m.group(1)}.type_inv.{self.typed[norm(name)]}!"
+                return f"{head}.{name}{rest}"
+            if norm(name) in self.typed and rest.startswith(".given"):
+                return f"{head}.type_inv.{self.typed[norm(name)]}{rest[6:]}"
+            path = rest.split(".")[1:]
+            arm = self.arm(at, name, path)
+            if arm:
+                return f"{head}.{arm[0]}" + "".join("." + p for p in path[arm[1]:])
             new = self.step(at, name)
-            return f"{m.group(1)}.{new or name}"
+            return f"{head}.{new or name}{rest}"
 
+        steps = {norm(s) for k in self.arms.values() if k for _, s, was in k[2] if was}
+        while True:
+            for m in re.finditer(r"let ([\w']+) = (c(?:\.before)*\.([\w-]+)(?:\.[\w-]+)*) in *(?:\n *)?", text):
+                if norm(re.sub(r"_lem$", "", m.group(3))) in steps and ".given" in m.group(2):
+                    text = text[: m.start()] + re.sub(rf"(?<![\w.'-]){re.escape(m.group(1))}(?=\.)", m.group(2), text[m.end():])
+                    break
+            else:
+                break
         text = text.replace(".type-inv", ".type_inv").replace(".well-formed", ".well_formed")
-        text = re.sub(r"(?<![\w.'-])([\w']+)((?:\.before)*)\.([\w-]+)", turn, text).replace("!.given", "")
+        text = re.sub(r"(?<![\w.'-])([\w']+)((?:\.before)*)\.([\w-]+)((?:\.[\w-]+)*)", turn, text)
+        text = re.sub(r"(c\.[\w-]+\.[\w-]+-own\.keys\d+)", r"(opened \1)", text)
         return self.fields(text)
 
     def fields(self, text):
@@ -221,7 +250,9 @@ def answers(folder, key, it, opened):
                 if old in names.needs:
                     at = names.asked[old]
                     turned = names.term(at, body)
-                    turned = re.sub(r"\(?not-(?:true|false) (?:_|\([^()]*\)|\S+) ([\w']+\.if-not-[\w-]+\.(?:true|false))\)?", r"\1", turned)
+                    plain = r"not-(?:true|false) (?:_|\([^()]*\)|[\w.'-]+) ([\w']+\.if-not-[\w-]+\.(?:true|false))"
+                    turned = re.sub(r"\(" + plain + r"\)", r"\1", turned)
+                    turned = re.sub(plain, r"\1", turned)
                     for n, a in enumerate(arrays_of(key), 1):
                         turned = re.sub(rf"(\.args|\ba)\.t{n}(?![\w'-])", rf"\1.{a}", turned)
                     turned = re.sub(r"(?m)^" + re.escape(d[0]) + r" c(?: κs)?(?= )", f"{names.needs[old]} c", turned)
@@ -239,6 +270,8 @@ def answers(folder, key, it, opened):
             out += ["", f"pub {goal} : goal.{goal}", f"{goal} c = ?"]
             print(f"left: {folder_of(key)}: {goal}: no old answer")
     comment = [l for l in head if l.startswith("--")]
+    if any("(opened c." in l for l in out):
+        head.append("use borrow.Enum.Refused.{opened}")
     with open(os.path.join(where, "Answers.antt"), "w", encoding="utf-8") as f:
         f.write("\n".join(comment + uses(head) + [f"use {module}.Goals as goal", ""] + helpers + out).rstrip() + "\n")
 

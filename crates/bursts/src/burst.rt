@@ -9,7 +9,7 @@ use codes::block_field::BlockField;
 use codes::slot_type::SlotType;
 
 // What a burst carries, by the four bits of its data type.
-#[derive(Drop)]
+#[derive(Clone, Copy)]
 pub enum Kind {
     Header,
     Block,
@@ -17,14 +17,14 @@ pub enum Kind {
 }
 
 // The sync that the writer puts into a burst.
-#[derive(Drop)]
+#[derive(Clone, Copy)]
 pub enum Sync {
     Base,
     Mobile,
 }
 
 // What is read from a burst: number 0 and its contents, or the number of the refusal and zeros.
-#[derive(Drop)]
+#[derive(Clone, Copy)]
 pub struct Burst {
     pub number: u8,
     pub colour: u8,
@@ -33,7 +33,7 @@ pub struct Burst {
 }
 
 // What is written: number 0 and the octets, or the number of the refusal and zeros.
-#[derive(Drop)]
+#[derive(Clone, Copy)]
 pub struct BurstOctets {
     pub number: u8,
     pub octets: [u8; 33],

@@ -26,21 +26,21 @@ const DATAGRAM: usize = 53;
 const END: usize = 67;
 
 // What is listed: index and number of every datagram, or the messages that are handed on.
-#[derive(Drop)]
+#[derive(Clone, Copy)]
 pub enum Listing {
     Numbers,
     Deliveries,
 }
 
 // The receiver and the counts of its answers.
-#[derive(Drop)]
+#[derive(Clone, Copy)]
 pub struct Gateway {
     pub receiver: Receiver,
     pub counts: Counts,
 }
 
 // Number 0, the gateway after the datagrams, the octets that they took, and where the text ends; or the number of the refusal.
-#[derive(Drop)]
+#[derive(Clone, Copy)]
 pub struct Listed {
     pub number: u8,
     pub gateway: Gateway,
@@ -215,7 +215,7 @@ pub fn close(listing: Listing, c: Counts, text: &mut [u8]) -> usize
 // ---- datagrams
 
 // The gateway after datagrams, and where their lines end.
-#[derive(Drop)]
+#[derive(Clone, Copy)]
 pub struct Step {
     pub gateway: Gateway,
     pub end: usize,

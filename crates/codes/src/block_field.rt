@@ -7,14 +7,14 @@ ghost use Rattle.codes.specs.Claims.{FieldComesBack};
 ghost use Rattle.codes.specs.Words.{cell, column, matrix_read, Sliced, ColumnsRight, RowRight, RowsRight, LaneRemainders, RowRemainders, NoneLeft, Codewords, data_rows};
 
 // What is read from a block field: number 0 and the information, or the number of the refusal and zeros.
-#[derive(Drop)]
+#[derive(Clone, Copy)]
 pub struct BlockField {
     pub number: u8,
     pub info: [u8; 12],
 }
 
 // A number below 16 for each column, its bits in four words, the lowest in a.
-#[derive(Drop)]
+#[derive(Clone, Copy)]
 struct Nibbles {
     a: u16,
     b: u16,

@@ -9,7 +9,7 @@ ghost use Rattle.reception.specs.declared.Answer.TheVariants.{Confirmed};
 use receiver::event;
 use reception::Answer;
 
-#[derive(Drop)]
+#[derive(Clone, Copy)]
 pub struct Counts {
     pub datagrams: u64,
     pub messages: u64,
@@ -52,7 +52,7 @@ pub fn none() -> Counts
 }
 
 // 1 for a message that is handed on, else 0; and 1 for a refusal, else 0.
-#[derive(Drop)]
+#[derive(Clone, Copy)]
 struct Marks {
     message: u64,
     refusal: u64,

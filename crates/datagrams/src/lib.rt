@@ -11,7 +11,7 @@ use bursts::burst::{Kind, Sync};
 use codes::slot_type::SlotType;
 
 // What stands before the burst, but for the data type.
-#[derive(Drop)]
+#[derive(Clone, Copy)]
 pub struct Labels {
     pub sequence: u8,
     pub source: RadioAddress,
@@ -23,7 +23,7 @@ pub struct Labels {
 }
 
 // What is read: number 0 and all fields, or the number of the refusal and zeros.
-#[derive(Drop)]
+#[derive(Clone, Copy)]
 pub struct Datagram {
     pub number: u8,
     pub labels: Labels,
@@ -33,7 +33,7 @@ pub struct Datagram {
 }
 
 // What is written: number 0 and the octets, or the number of the refusal and zeros.
-#[derive(Drop)]
+#[derive(Clone, Copy)]
 pub struct DatagramOctets {
     pub number: u8,
     pub octets: [u8; 53],

@@ -1,3 +1,4 @@
 // What every layer rests on: octets at a place, read and written. Bits, the order of checks and their laws stand in specs/ and proofs/.
 #![tactic(auto)]
+
 pub mod octets;

@@ -6,7 +6,7 @@ ghost use Rattle.interleaver.specs.Reading.{runs_of, grouped, cut_words, field_w
 use crate::lanes::Square;
 
 // A field of 64, 64, 64 and 8 bits.
-#[derive(Drop)]
+#[derive(Clone, Copy)]
 struct Words {
     a: u64,
     b: u64,

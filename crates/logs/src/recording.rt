@@ -182,7 +182,7 @@ fn record_kind(rx: Receiver, store: &mut [u8], kind: u8, octets: &[u8], line: &m
 }
 
 // Number 0 and the receiver after a record, or the number of the refusal and the receiver as it was.
-#[derive(Drop)]
+#[derive(Clone, Copy)]
 pub struct Recorded {
     pub number: u8,
     pub receiver: Receiver,

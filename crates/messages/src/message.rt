@@ -22,7 +22,7 @@ pub const MOST_OCTETS: usize = BLOCK * MOST_BLOCKS - CHECK;
 const FSN: u8 = 8;
 
 // Who sends what to whom: SAP, N(S), destination and source.
-#[derive(Drop)]
+#[derive(Clone, Copy)]
 pub struct Delivery {
     pub sap: u8,
     pub ns: u8,
@@ -31,7 +31,7 @@ pub struct Delivery {
 }
 
 // Number of blocks and pad of a message, or the number of the refusal and zeros.
-#[derive(Drop)]
+#[derive(Clone, Copy)]
 pub struct Size {
     pub number: u8,
     pub blocks: u8,

@@ -12,7 +12,7 @@ use packets::header::{Common, Header, HeaderAnswer};
 const SACK: u8 = 2;
 
 // ACK, NACK or SACK.
-#[derive(Drop)]
+#[derive(Clone, Copy)]
 pub enum Reply {
     Ack,
     Nack,
@@ -20,7 +20,7 @@ pub enum Reply {
 }
 
 // What is written: number 0, the header, how many data blocks follow it (0 or 1) and the data block; or the number of the refusal and zeros.
-#[derive(Drop)]
+#[derive(Clone, Copy)]
 pub struct ResponseOctets {
     pub number: u8,
     pub header: [u8; 12],
@@ -29,7 +29,7 @@ pub struct ResponseOctets {
 }
 
 // What is read: number 0, the fields and the flags of a SACK, or the number of the refusal and zeros.
-#[derive(Drop)]
+#[derive(Clone, Copy)]
 pub struct ResponseAnswer {
     pub number: u8,
     pub class: u8,

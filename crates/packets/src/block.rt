@@ -4,7 +4,7 @@ ghost use Rattle.packets.specs.Blocks.{read_block, refused_block, written_block,
 ghost use Rattle.packets.specs.BlockClaims.{BlockReadsBack};
 
 // What is read: number 0, the serial and the data octets, or the number of the refusal and zeros.
-#[derive(Drop)]
+#[derive(Clone, Copy)]
 pub struct Block {
     pub number: u8,
     pub serial: u8,
@@ -12,7 +12,7 @@ pub struct Block {
 }
 
 // What is written: number 0 and the octets, or the number of the refusal and zeros.
-#[derive(Drop)]
+#[derive(Clone, Copy)]
 pub struct BlockOctets {
     pub number: u8,
     pub octets: [u8; 12],

@@ -11,7 +11,7 @@ use addresses::RadioAddress;
 const MASK: u16 = 0xCCCC;
 
 // The fields that all formats have. `requested` is A, response requested; `full` the full-message flag, `blocks` the block count.
-#[derive(Drop)]
+#[derive(Clone, Copy)]
 pub struct Common {
     pub group: u8,
     pub requested: u8,
@@ -24,7 +24,7 @@ pub struct Common {
 }
 
 // A header by its format: 1 with class, type and status; 2 with FSN; 3 with S, N(S) and FSN.
-#[derive(Drop)]
+#[derive(Clone, Copy)]
 pub enum Header {
     Response(Common, u8, u8, u8),
     Unconfirmed(Common, u8),
@@ -32,14 +32,14 @@ pub enum Header {
 }
 
 // What is read: the header, or the number of the refusal.
-#[derive(Drop)]
+#[derive(Clone, Copy)]
 pub enum HeaderAnswer {
     Accepted(Header),
     Refused(u8),
 }
 
 // What is written: number 0 and the octets, or the number of the refusal and zeros.
-#[derive(Drop)]
+#[derive(Clone, Copy)]
 pub struct HeaderOctets {
     pub number: u8,
     pub octets: [u8; 12],

@@ -15,7 +15,7 @@ use receiver_state::{Receiver, STORE};
 use transactions::header::{Heard, Transaction};
 
 // What is answered to a header or a block. A message is the store's first octets, this many.
-#[derive(Drop)]
+#[derive(Clone, Copy)]
 pub enum Answer {
     Refused(u8),
     Opened,
@@ -26,7 +26,7 @@ pub enum Answer {
 }
 
 // The receiver after an event, and the answer.
-#[derive(Drop)]
+#[derive(Clone, Copy)]
 pub struct Step {
     pub receiver: Receiver,
     pub answer: Answer,

@@ -13,7 +13,7 @@ use transactions::header::Transaction;
 pub const STORE: usize = BLOCK * MOST_BLOCKS;
 
 // The receiver: own address, phase (0 no transaction, 1 open, 2 complete), transaction, and the flags of the held blocks.
-#[derive(Drop)]
+#[derive(Clone, Copy)]
 pub struct Receiver {
     pub own: RadioAddress,
     pub phase: u8,
@@ -22,7 +22,7 @@ pub struct Receiver {
 }
 
 // A fresh receiver and number 0, or the number of the refusal and a receiver of address 0.
-#[derive(Drop)]
+#[derive(Clone, Copy)]
 pub struct Fresh {
     pub number: u8,
     pub receiver: Receiver,

@@ -12,7 +12,7 @@ use receiver_state::{Receiver, STORE};
 
 // What a datagram brings: number 0, the kind of its burst and the twelve octets that it carries; or the number of the refusal, no kind
 // and zeros.
-#[derive(Drop)]
+#[derive(Clone, Copy)]
 pub struct Arrival {
     pub number: u8,
     pub kind: Kind,
@@ -20,14 +20,14 @@ pub struct Arrival {
 }
 
 // What is answered to a datagram: the number of a refusal before any receiver, or what the receiver of confirmed messages answers.
-#[derive(Drop)]
+#[derive(Clone, Copy)]
 pub enum Answer {
     Refused(u8),
     Confirmed(receiver::event::Answer),
 }
 
 // The receiver after a datagram, and the answer.
-#[derive(Drop)]
+#[derive(Clone, Copy)]
 pub struct Received {
     pub receiver: Receiver,
     pub answer: Answer,

@@ -32,7 +32,7 @@ const CONTENTS: usize = 1024;
 pub const ROOM: usize = 2064;
 
 // Number 0, the receiver after the records, the octets that they took, and where the text ends; or the number of the refusal.
-#[derive(Drop)]
+#[derive(Clone, Copy)]
 pub struct Replayed {
     pub number: u8,
     pub receiver: Receiver,
@@ -124,7 +124,7 @@ fn put_line(text: &mut [u8], at: usize, line: &[u8]) -> usize
 // ---- records
 
 // A record in a log: whether it has come, its kind, and where its octets begin and end.
-#[derive(Drop)]
+#[derive(Clone, Copy)]
 pub struct Cut {
     pub come: bool,
     pub kind: u8,
@@ -177,7 +177,7 @@ fn cut_at(octets: &[u8], at: usize, last: bool) -> Cut
 }
 
 // The receiver after a record, and where its line ends.
-#[derive(Drop)]
+#[derive(Clone, Copy)]
 pub struct LineEnd {
     pub receiver: Receiver,
     pub end: usize,
@@ -214,7 +214,7 @@ fn answer(
 }
 
 // The receiver after records, the octets that they took, and where their lines end.
-#[derive(Drop)]
+#[derive(Clone, Copy)]
 pub struct Step {
     pub receiver: Receiver,
     pub taken: usize,

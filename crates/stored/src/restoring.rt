@@ -13,7 +13,7 @@ use transactions::flags::FLAG_OCTETS;
 use transactions::header::Transaction;
 
 // Number 0 and the receiver restored, or the number of the refusal and the receiver as it was.
-#[derive(Drop)]
+#[derive(Clone, Copy)]
 pub struct Restored {
     pub number: u8,
     pub receiver: Receiver,

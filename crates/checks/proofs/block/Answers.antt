@@ -14,9 +14,7 @@ use Rattle.checks.specs.Claims.{BlockCarries}
 use Rattle.checks.proofs.Claims.{claims}
 use Rattle.checks.proofs.Masked.{masked_high, check-digits}
 use Rattle.checks.proofs.BlockChecks.{block_bits, block_bits_bits}
-use borrow.Author.Rules.{rules}
 use Rattle.checks.proofs.block.Goals as goal
-
 
 pub returns-then-octets-eq10 : goal.returns-then-octets-eq10
 unfolding block_check

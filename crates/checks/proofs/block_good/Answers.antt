@@ -4,12 +4,10 @@ use mathlib.Core.Path.{ap, ◌∙◌}
 use Prim.Native.Nat.{◌/◌}
 use native.Mathlib.Omega.{arith}
 use lib.ListN.{length, get_or}
-use borrow.Author.Rules.{rules}
 use Rattle.checks.specs.Checks.{block_check, block_good}
 use Rattle.checks.proofs.Ends.{too_few, rest}
 use Rattle.checks.proofs.BlockChecks.{block-long}
 use Rattle.checks.proofs.block_good.Goals as goal
-
 
 pub returns-then-octets-lt2 : goal.returns-then-octets-lt2
 unfolding block_good

@@ -10,9 +10,7 @@ use Rattle.polynomials.specs.Remainder.{divide}
 use Rattle.folds.proofs.Tables.{message_times}
 use Rattle.checks.specs.Checks.{message_generator}
 use Rattle.checks.proofs.MessageChecks.{so_far_none, so_far_pair}
-use borrow.Author.Rules.{rules}
 use Rattle.checks.proofs.first_pair.Goals as goal
-
 
 pub returns-then-octets-eq0 : goal.returns-then-octets-eq0
 returns-then-octets-eq0 c =

@@ -1,13 +1,10 @@
 -- `checks::front` meets its contract.
 -- Assumes nothing.
-use borrow.Author.Rules.{rules}
-use mathlib.Core.Path.{◌≡◌, refl, ap, ◌∙◌}
-use Prim.Native.Nat.{ℕ, ◌*◌, ◌-◌, ◌≤◌}
+use mathlib.Core.Path.{refl}
 use native.Mathlib.Omega.{arith}
-use Rattle.foundation.specs.Bits.{octet_bit, value_of}
+use Rattle.foundation.specs.Bits.{value_of}
 use Rattle.checks.proofs.HeaderChecks.{front-lt, front_more}
 use Rattle.checks.proofs.front.Goals as goal
-
 
 pub loop-j-init : goal.loop-j-init
 unfolding value_of

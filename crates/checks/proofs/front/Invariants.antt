@@ -1,11 +1,8 @@
 -- `checks::front` meets its contract.
 -- Assumes nothing.
-use borrow.Author.Rules.{rules}
-use mathlib.Core.Path.{◌≡◌, refl, ap, ◌∙◌}
-use Prim.Native.Nat.{ℕ, ◌*◌, ◌-◌, ◌≤◌}
-use native.Mathlib.Omega.{arith}
+use mathlib.Core.Path.{◌≡◌}
+use Prim.Native.Nat.{◌*◌, ◌-◌, ◌≤◌}
 use Rattle.foundation.specs.Bits.{octet_bit, value_of}
-use Rattle.checks.proofs.HeaderChecks.{front-lt, front_more}
 use Rattle.checks.proofs.front.Given as goal
 
 abbrev pub invariant-loop-j : goal.invariant-loop-j

@@ -3,12 +3,10 @@
 use mathlib.Core.Path.{sym, ap, subst}
 use Prim.Native.Nat.{ℕ}
 use lib.Bits.{bit_xor}
-use borrow.Author.Rules.{rules}
 use Rattle.checks.specs.Checks.{inverted, header_check}
 use Rattle.checks.specs.Claims.{HeaderCarries}
 use Rattle.checks.proofs.Claims.{claims}
 use Rattle.checks.proofs.header.Goals as goal
-
 
 pub returns : goal.returns
 unfolding header_check

@@ -1,15 +1,11 @@
 -- `checks::header_good` meets its contract.
 -- Assumes nothing.
-use mathlib.Core.Path.{sym}
 use native.Mathlib.Omega.{arith}
 use lib.ListN.{length}
-use lib.Seq.{length-take-le}
-use borrow.Author.Rules.{rules}
 use Rattle.checks.specs.Checks.{header_good}
 use Rattle.checks.proofs.Ends.{too_few}
 use Rattle.checks.proofs.HeaderChecks.{header-long}
 use Rattle.checks.proofs.header_good.Goals as goal
-
 
 pub returns-then-n-lt2 : goal.returns-then-n-lt2
 unfolding header_good

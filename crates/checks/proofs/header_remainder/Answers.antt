@@ -7,9 +7,7 @@ use Rattle.foundation.specs.Bits.{digits}
 use Rattle.polynomials.specs.Remainder.{check}
 use Rattle.folds.proofs.Octets.{header_so_far}
 use Rattle.checks.specs.Checks.{header_generator}
-use borrow.Author.Rules.{rules}
 use Rattle.checks.proofs.header_remainder.Goals as goal
-
 
 pub returns : goal.returns
 returns c =

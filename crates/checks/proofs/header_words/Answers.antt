@@ -1,17 +1,12 @@
 -- `checks::header_words` meets its contract.
 -- Assumes nothing.
-use borrow.Author.Rules.{rules}
-use mathlib.Core.Path.{◌≡◌, ap, ◌∙◌}
-use Prim.Native.Nat.{ℕ, ◌*◌, ◌-◌, ◌%◌, ◌≤◌}
+use mathlib.Core.Path.{◌∙◌}
+use Prim.Native.Nat.{◌%◌}
 use native.Mathlib.Omega.{arith}
 use lib.ListN.{length}
-use Rattle.foundation.specs.Bits.{octet_bit}
 use Rattle.foundation.proofs.OctetWords.{whole_word}
-use Rattle.polynomials.specs.Remainder.{remainder}
-use Rattle.folds.specs.Folds.{header_fourth}
 use Rattle.folds.proofs.Octets.{header-first, header_more}
 use Rattle.checks.proofs.header_words.Goals as goal
-
 
 pub loop-i-init : goal.loop-i-init
 loop-i-init c =

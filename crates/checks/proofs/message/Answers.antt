@@ -11,9 +11,7 @@ use Rattle.polynomials.specs.Remainder.{divide}
 use Rattle.checks.specs.Checks.{message_generator, message_check}
 use Rattle.checks.specs.Parts.{message_so_far}
 use Rattle.checks.proofs.MessageChecks.{so_far_last}
-use borrow.Author.Rules.{rules}
 use Rattle.checks.proofs.message.Goals as goal
-
 
 pub returns-then-n-eq0 : goal.returns-then-n-eq0
 unfolding message_check message_so_far

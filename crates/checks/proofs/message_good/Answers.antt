@@ -1,15 +1,11 @@
 -- `checks::message_good` meets its contract.
 -- Assumes nothing.
-use mathlib.Core.Path.{sym}
 use native.Mathlib.Omega.{arith}
 use lib.ListN.{length}
-use lib.Seq.{length-take-le}
-use borrow.Author.Rules.{rules}
 use Rattle.checks.specs.Checks.{message_good}
 use Rattle.checks.proofs.Ends.{too_few}
 use Rattle.checks.proofs.MessageChecks.{message-long}
 use Rattle.checks.proofs.message_good.Goals as goal
-
 
 pub returns-then-n-lt4 : goal.returns-then-n-lt4
 unfolding message_good

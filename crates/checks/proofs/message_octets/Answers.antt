@@ -3,12 +3,10 @@
 use mathlib.Core.Path.{sym, ap, subst}
 use mathlib.Core.List.{List}
 use Prim.Native.Nat.{ℕ}
-use borrow.Author.Rules.{rules}
 use Rattle.checks.specs.Checks.{lowest_first}
 use Rattle.checks.specs.Claims.{MessageCarries}
 use Rattle.checks.proofs.Claims.{claims}
 use Rattle.checks.proofs.message_octets.Goals as goal
-
 
 pub returns : goal.returns
 unfolding lowest_first

@@ -2,19 +2,15 @@
 -- Assumes nothing.
 use lib.Bits.{bit_xor, xor_lt}
 use Rattle.checks.proofs.MessageChecks.{so_far_lt, so_far_word}
-use borrow.Author.Rules.{rules}
-use mathlib.Core.Path.{◌≡◌, sym, ap, ◌∙◌}
-use Prim.Native.Nat.{ℕ, ◌*◌, ◌-◌, ◌/◌, ◌%◌, ◌≤◌}
+use mathlib.Core.Path.{ap, ◌∙◌}
+use Prim.Native.Nat.{ℕ}
 use native.Mathlib.Omega.{arith}
-use lib.ListN.{length}
 use Rattle.foundation.specs.Bits.{zeros}
 use Rattle.foundation.proofs.OctetLists.{Octets}
 use Rattle.polynomials.specs.Remainder.{divide}
-use Rattle.folds.proofs.Tables.{table_length, message_times}
+use Rattle.folds.proofs.Tables.{message_times}
 use Rattle.checks.specs.Checks.{message_generator}
-use Rattle.checks.specs.Parts.{message_so_far}
 use Rattle.checks.proofs.message_pairs.Goals as goal
-
 
 pub loop-i-preserved : goal.loop-i-preserved
 loop-i-preserved c =

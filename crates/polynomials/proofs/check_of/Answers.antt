@@ -1,17 +1,15 @@
 -- `polynomials::check_of` meets its contract: after i turns the register is the check of the first i octets.
 -- Assumes nothing.
-use mathlib.Core.Path.{◌≡◌, sym, ap, ◌∙◌}
-use Prim.Native.Nat.{ℕ, ◌+◌, ◌*◌, ◌-◌, ◌^◌, ◌≤◌}
+use mathlib.Core.Path.{sym, ap, ◌∙◌}
+use Prim.Native.Nat.{ℕ, ◌+◌, ◌*◌, ◌^◌}
 use native.Mathlib.Omega.{arith}
 use lib.Bits.{bit_xor}
-use lib.ListN.{length, get_or}
-use borrow.Author.Rules.{rules}
+use lib.ListN.{get_or}
 use Rattle.foundation.specs.Bits.{zeros, octet_bit}
-use Rattle.polynomials.specs.Remainder.{divide, check}
+use Rattle.polynomials.specs.Remainder.{divide}
 use Rattle.polynomials.proofs.Check.{check-none}
 use Rattle.polynomials.proofs.Register.{octet_more}
 use Rattle.polynomials.proofs.check_of.Goals as goal
-
 
 pub loop-i-init : goal.loop-i-init
 loop-i-init c = (omega arith, sym (check-none 32 (2 ^ 32 + c.args.g) (octet_bit c.args.octets.now)))

@@ -4,7 +4,6 @@ use native.Mathlib.Omega.{arith}
 use Rattle.polynomials.proofs.Register.{shift_low, shift_high}
 use Rattle.polynomials.proofs.shift.Goals as goal
 
-
 pub returns-then-r-lt2147483648 : goal.returns-then-r-lt2147483648
 returns-then-r-lt2147483648 c = shift_low c.args.g c.args.r c.if-r-lt2147483648.true
 

@@ -1,14 +1,12 @@
 -- `polynomials::shifts` meets its contract: after i turns the register is r times x^i.
 -- Assumes nothing.
-use mathlib.Core.Path.{◌≡◌, refl, ap, ◌∙◌}
-use Prim.Native.Nat.{ℕ, ◌+◌, ◌-◌, ◌^◌, ◌≤◌}
+use mathlib.Core.Path.{refl, ap, ◌∙◌}
+use Prim.Native.Nat.{ℕ, ◌+◌, ◌^◌}
 use native.Mathlib.Omega.{arith}
-use borrow.Author.Rules.{rules}
 use Rattle.foundation.specs.Bits.{zeros}
 use Rattle.polynomials.specs.Remainder.{divide}
 use Rattle.polynomials.proofs.Check.{times_times}
 use Rattle.polynomials.proofs.shifts.Goals as goal
-
 
 pub loop-i-init : goal.loop-i-init
 unfolding divide

@@ -1,12 +1,9 @@
 -- `polynomials::shifts` meets its contract: after i turns the register is r times x^i.
 -- Assumes nothing.
-use mathlib.Core.Path.{◌≡◌, refl, ap, ◌∙◌}
-use Prim.Native.Nat.{ℕ, ◌+◌, ◌-◌, ◌^◌, ◌≤◌}
-use native.Mathlib.Omega.{arith}
-use borrow.Author.Rules.{rules}
+use mathlib.Core.Path.{◌≡◌}
+use Prim.Native.Nat.{◌+◌, ◌-◌, ◌^◌, ◌≤◌}
 use Rattle.foundation.specs.Bits.{zeros}
 use Rattle.polynomials.specs.Remainder.{divide}
-use Rattle.polynomials.proofs.Check.{times_times}
 use Rattle.polynomials.proofs.shifts.Given as goal
 
 abbrev pub invariant-loop-i : goal.invariant-loop-i

@@ -1,14 +1,12 @@
 -- `texts::put_decimal` meets its contract.
 -- Assumes nothing.
-use mathlib.Core.Path.{ap, ap₂, ◌∙◌}
+use mathlib.Core.Path.{ap, ◌∙◌}
 use mathlib.Core.List.{List}
 use Prim.Native.Nat.{ℕ}
 use Rattle.foundation.specs.Octets.{put}
 use Rattle.texts.specs.Texts.{end_at}
 use Rattle.texts.proofs.Decimals.{spelled}
-use borrow.Author.Rules.{rules}
 use Rattle.texts.proofs.put_decimal.Goals as goal
-
 
 pub returns : goal.returns
 returns c =

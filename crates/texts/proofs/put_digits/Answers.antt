@@ -1,12 +1,8 @@
 -- `texts::put_digits` meets its contract.
 -- Assumes nothing.
-use mathlib.Core.Path.{ap, ◌∙◌}
-use Prim.Native.Nat.{◌-◌, ◌*◌, ◌+◌, ◌<◌, ◌≤◌}
-use lib.ListN.{length, get_or, length-set}
 use native.Mathlib.Omega.{arith}
-use Rattle.texts.proofs.Writing.{Spelled, spelled_none, spelled_more, spelled_all}
+use Rattle.texts.proofs.Writing.{spelled_none, spelled_more, spelled_all}
 use Rattle.texts.proofs.put_digits.Goals as goal
-
 
 pub loop-i-init : goal.loop-i-init
 loop-i-init c = let a = c.args in spelled_none a.text.now a.at a.octets.now c.requires

@@ -1,10 +1,8 @@
 -- `texts::put_digits` meets its contract.
 -- Assumes nothing.
-use mathlib.Core.Path.{ap, ◌∙◌}
-use Prim.Native.Nat.{◌-◌, ◌*◌, ◌+◌, ◌<◌, ◌≤◌}
-use lib.ListN.{length, get_or, length-set}
-use native.Mathlib.Omega.{arith}
-use Rattle.texts.proofs.Writing.{Spelled, spelled_none, spelled_more, spelled_all}
+use Prim.Native.Nat.{◌-◌}
+use lib.ListN.{length}
+use Rattle.texts.proofs.Writing.{Spelled}
 use Rattle.texts.proofs.put_digits.Given as goal
 
 abbrev pub invariant-loop-i : goal.invariant-loop-i

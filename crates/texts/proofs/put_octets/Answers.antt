@@ -7,9 +7,7 @@ use Prim.Native.Nat.{ℕ}
 use Rattle.foundation.specs.Octets.{put}
 use Rattle.texts.specs.Texts.{end_at}
 use Rattle.texts.proofs.Writing.{octets-none, octets_outside, octets-inside}
-use borrow.Author.Rules.{rules}
 use Rattle.texts.proofs.put_octets.Goals as goal
-
 
 pub returns-then-n-eq0 : goal.returns-then-n-eq0
 returns-then-n-eq0 c =

@@ -1,11 +1,8 @@
 -- `texts::put_word` meets its contract.
 -- Assumes nothing.
-use mathlib.Core.Path.{sym}
 use native.Mathlib.Omega.{arith}
 use Rattle.texts.proofs.Writing.{end_inside, end_outside}
-use borrow.Author.Rules.{rules}
 use Rattle.texts.proofs.put_word.Goals as goal
-
 
 pub returns-then-size-n : goal.returns-then-size-n
 returns-then-size-n c = let a = c.args in (end_outside a.text.now a.at a.word.now (omega arith), c.put.ensures)

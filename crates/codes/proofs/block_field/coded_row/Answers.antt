@@ -7,9 +7,7 @@ use native.Mathlib.Omega.{arith}
 use Rattle.foundation.specs.Bits.{digits}
 use Rattle.codes.specs.Hamming.{syndrome}
 use Rattle.codes.proofs.FieldWriting.{row_coded}
-use borrow.Author.Rules.{rules}
 use Rattle.codes.proofs.block_field.coded_row.Goals as goal
-
 
 pub returns : goal.returns
 returns c =

@@ -1,13 +1,9 @@
 -- `codes::block_field::column_remainders` meets its contract: the four words hold the remainders of the first r bits of every column.
 -- Assumes nothing.
-use mathlib.Core.Path.{◌≡◌, subst}
-use Prim.Native.Nat.{ℕ, ◌-◌, ◌≤◌}
 use native.Mathlib.Omega.{arith}
 use borrow.Author.Rules.{rules}
-use Rattle.codes.specs.Words.{Sliced}
-use Rattle.codes.proofs.Slices.{remainders, sliced_none, sliced_more}
+use Rattle.codes.proofs.Slices.{sliced_none, sliced_more}
 use Rattle.codes.proofs.block_field.column_remainders.Goals as goal
-
 
 pub loop-r-init : goal.loop-r-init
 loop-r-init c = (search rules, sliced_none c.args.m)

@@ -1,11 +1,8 @@
 -- `codes::block_field::column_remainders` meets its contract: the four words hold the remainders of the first r bits of every column.
 -- Assumes nothing.
-use mathlib.Core.Path.{◌≡◌, subst}
-use Prim.Native.Nat.{ℕ, ◌-◌, ◌≤◌}
-use native.Mathlib.Omega.{arith}
-use borrow.Author.Rules.{rules}
+use Prim.Native.Nat.{◌-◌, ◌≤◌}
 use Rattle.codes.specs.Words.{Sliced}
-use Rattle.codes.proofs.Slices.{remainders, sliced_none, sliced_more}
+use Rattle.codes.proofs.Slices.{remainders}
 use Rattle.codes.proofs.block_field.column_remainders.Given as goal
 
 abbrev pub invariant-loop-r : goal.invariant-loop-r

@@ -1,9 +1,7 @@
 -- `codes::block_field::columns_good` meets its contract.
 -- Assumes nothing.
-use borrow.Author.Rules.{rules}
 use Rattle.codes.proofs.FieldWords.{columns_test}
 use Rattle.codes.proofs.block_field.columns_good.Goals as goal
-
 
 pub returns : goal.returns
 returns c =

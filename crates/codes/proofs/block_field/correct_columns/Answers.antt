@@ -2,7 +2,7 @@
 -- remainders times x^(3 + r), so that 1 names row r.
 -- Assumes nothing.
 use mathlib.Core.Path.{◌≡◌, ap, subst, ◌∙◌}
-use Prim.Native.Nat.{ℕ, ◌+◌, ◌-◌, ◌≤◌, ◌<◌}
+use Prim.Native.Nat.{ℕ, ◌+◌, ◌<◌}
 use native.Mathlib.Omega.{arith}
 use borrow.Author.Rules.{rules}
 use lib.Bits.{bit_xor}
@@ -11,9 +11,8 @@ use Rattle.foundation.specs.Bits.{bit}
 use Rattle.codes.specs.Hamming.{corrected}
 use Rattle.codes.specs.Words.{column, Sliced}
 use Rattle.codes.proofs.Slices.{remainders, times_x, ones, sliced_cube, sliced_times, row_right}
-use Rattle.foundation.proofs.Replaced.{Replaced, replaced_none, replaced_more}
+use Rattle.foundation.proofs.Replaced.{replaced_none, replaced_more}
 use Rattle.codes.proofs.block_field.correct_columns.Goals as goal
-
 
 pub loop-r-init : goal.loop-r-init
 loop-r-init c =

@@ -1,17 +1,13 @@
 -- `codes::block_field::correct_columns` meets its contract: the first r rows are put right, and the four words hold the columns'
 -- remainders times x^(3 + r), so that 1 names row r.
 -- Assumes nothing.
-use mathlib.Core.Path.{◌≡◌, ap, subst, ◌∙◌}
-use Prim.Native.Nat.{ℕ, ◌+◌, ◌-◌, ◌≤◌, ◌<◌}
-use native.Mathlib.Omega.{arith}
-use borrow.Author.Rules.{rules}
-use lib.Bits.{bit_xor}
-use lib.ListN.{get_or, length}
+use mathlib.Core.Path.{◌≡◌}
+use Prim.Native.Nat.{ℕ, ◌+◌, ◌-◌, ◌≤◌}
 use Rattle.foundation.specs.Bits.{bit}
 use Rattle.codes.specs.Hamming.{corrected}
 use Rattle.codes.specs.Words.{column, Sliced}
-use Rattle.codes.proofs.Slices.{remainders, times_x, ones, sliced_cube, sliced_times, row_right}
-use Rattle.foundation.proofs.Replaced.{Replaced, replaced_none, replaced_more}
+use Rattle.codes.proofs.Slices.{remainders, times_x}
+use Rattle.foundation.proofs.Replaced.{Replaced}
 use Rattle.codes.proofs.block_field.correct_columns.Given as goal
 
 abbrev pub invariant-loop-r : goal.invariant-loop-r

@@ -7,9 +7,7 @@ use Rattle.foundation.specs.Bits.{digits}
 use Rattle.foundation.proofs.Runs.{digits_bits}
 use Rattle.codes.proofs.HammingWords.{syndrome-lt}
 use Rattle.codes.proofs.RowWords.{row_fixed}
-use borrow.Author.Rules.{rules}
 use Rattle.codes.proofs.block_field.correct_row.Goals as goal
-
 
 pub overflow_mul-k : goal.overflow_mul-k
 overflow_mul-k c = let l : c.args.s < 16 = subst (λ (x : ℕ). x < 16) (sym c.requires) (syndrome-lt (digits 15 c.args.w) (digits_bits 15 c.args.w) 15) in omega arith

@@ -1,15 +1,9 @@
 -- `codes::block_field::correct_rows` meets its contract: the first r rows are put right.
 -- Assumes nothing.
-use borrow.Author.Rules.{rules}
-use mathlib.Core.Path.{sym, ap, subst, ◌∙◌}
-use Prim.Native.Nat.{ℕ, ◌-◌, ◌≤◌, ◌<◌}
-use native.Mathlib.Omega.{arith}
-use lib.ListN.{get_or, length}
-use Rattle.foundation.specs.Bits.{digits}
-use Rattle.codes.specs.Hamming.{syndrome}
+use Prim.Native.Nat.{◌-◌, ◌≤◌}
+use lib.ListN.{get_or}
 use Rattle.codes.specs.Words.{RowRight}
-use Rattle.codes.proofs.RowWords.{rows-kept}
-use Rattle.foundation.proofs.Replaced.{Replaced, replaced_none, replaced_more}
+use Rattle.foundation.proofs.Replaced.{Replaced}
 use Rattle.codes.proofs.block_field.correct_rows.Given as goal
 
 abbrev pub invariant-loop-r : goal.invariant-loop-r

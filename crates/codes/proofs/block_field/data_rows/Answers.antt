@@ -1,17 +1,14 @@
 -- `codes::block_field::data_rows` meets its contract: the first r rows are filled.
 -- Assumes nothing.
 use mathlib.Core.Path.{◌∙◌}
-use Prim.Native.Nat.{◌-◌, ◌≤◌}
 use native.Mathlib.Omega.{arith}
-use lib.Dec.{lit≤}
 use Rattle.foundation.proofs.Runs.{value_lt}
 use Rattle.codes.specs.Field.{information}
 use Rattle.codes.specs.Words.{data_rows}
-use Rattle.foundation.proofs.Filling.{Filled, filled-start, filled_more, filled_done}
+use Rattle.foundation.proofs.Filling.{filled_more, filled_done}
 use Rattle.codes.proofs.FieldReading.{information_bits}
 use Rattle.codes.proofs.FieldWriting.{data_row, data_rest}
 use Rattle.codes.proofs.block_field.data_rows.Goals as goal
-
 
 pub coded_row-requires : goal.coded_row-requires
 coded_row-requires c =

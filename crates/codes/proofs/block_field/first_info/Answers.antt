@@ -1,9 +1,7 @@
 -- `codes::block_field::first_info` meets its contract.
 -- Assumes nothing.
 use Rattle.codes.proofs.FieldWords.{first_info}
-use borrow.Author.Rules.{rules}
 use Rattle.codes.proofs.block_field.first_info.Goals as goal
-
 
 pub returns : goal.returns
 returns c =

@@ -4,9 +4,7 @@ use mathlib.Core.Path.{◌∙◌}
 use mathlib.Core.List.{[], ◌∷◌}
 use lib.ListN.{get_or}
 use Rattle.codes.proofs.FieldWords.{info_words}
-use borrow.Author.Rules.{rules}
 use Rattle.codes.proofs.block_field.info_octets.Goals as goal
-
 
 pub returns : goal.returns
 returns c =

@@ -1,9 +1,7 @@
 -- `codes::block_field::matrix` meets its contract: over four rows of zeros, the remainders of the columns are their parity.
 -- Assumes nothing.
-use borrow.Author.Rules.{rules}
 use Rattle.codes.proofs.FieldWriting.{matrix_coded}
 use Rattle.codes.proofs.block_field.matrix.Goals as goal
-
 
 pub returns : goal.returns
 returns c =

@@ -7,9 +7,7 @@ use native.Mathlib.Omega.{arith}
 use Rattle.codes.specs.Field.{read_field}
 use Rattle.codes.specs.Words.{cell, matrix_read, Codewords, ColumnsRight}
 use Rattle.codes.proofs.FieldWords.{field_rows, rows_same, cell-read, cell_clean, rows-good, matrix_read_lem, columns-bad, refused-read, read-size}
-use borrow.Author.Rules.{rules}
 use Rattle.codes.proofs.block_field.read.Goals as goal
-
 
 pub returns-then-field-ne25 : goal.returns-then-field-ne25
 returns-then-field-ne25 c = read-size c.args.field.now c.if-field-ne25.true

@@ -3,9 +3,7 @@
 use mathlib.Core.Path.{refl}
 use native.Mathlib.Omega.{arith}
 use Rattle.codes.proofs.FieldWords.{reserved_some, reserved-zero, refused-read, good-read}
-use borrow.Author.Rules.{rules}
 use Rattle.codes.proofs.block_field.read_matrix.Goals as goal
-
 
 pub returns-then-m-ne0 : goal.returns-then-m-ne0
 returns-then-m-ne0 c = refused-read c.args.m 7 (reserved_some c.args.m c.requires.rows c.requires.columns c.if-m-ne0.true) (λ e. omega arith)

@@ -3,10 +3,9 @@
 use Prim.Native.Nat.{ℕ, ◌^◌, ◌<◌}
 use lib.ListN.{get_or}
 use mir.Syntax.{w16}
-use borrow.Author.Rules.{rules, elem_Fits}
+use borrow.Author.Rules.{elem_Fits}
 use Rattle.codes.proofs.RowWords.{rows_named}
 use Rattle.codes.proofs.block_field.row_remainders.Goals as goal
-
 
 pub returns : goal.returns
 returns c =

@@ -10,7 +10,6 @@ use Rattle.codes.proofs.Claims.{claims}
 use Rattle.codes.proofs.FieldWriting.{field-written}
 use Rattle.codes.proofs.block_field.write.Goals as goal
 
-
 pub returns : goal.returns
 returns c =
     let m = c.matrix in

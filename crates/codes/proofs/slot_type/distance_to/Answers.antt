@@ -4,10 +4,8 @@ use mathlib.Core.Path.{ap}
 use Prim.Native.Nat.{ℕ}
 use lib.Bits.{bit_xor}
 use lib.Count.{ones}
-use borrow.Author.Rules.{rules}
 use Rattle.codes.specs.SlotWord.{distance}
 use Rattle.codes.proofs.slot_type.distance_to.Goals as goal
-
 
 pub returns : goal.returns
 unfolding distance

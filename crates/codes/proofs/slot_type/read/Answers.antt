@@ -3,11 +3,9 @@
 use mathlib.Core.Path.{sym, ◌∙◌}
 use Prim.Native.Nat.{ℕ, ◌/◌, ◌^◌, ◌≤◌}
 use native.Mathlib.Omega.{arith}
-use borrow.Author.Rules.{rules}
 use Rattle.codes.specs.SlotWord.{slot_word, distance}
 use Rattle.codes.proofs.SlotReading.{corrects, too_wide, twenty}
 use Rattle.codes.proofs.slot_type.read.Goals as goal
-
 
 pub returns-then-word-ge1048576 : goal.returns-then-word-ge1048576
 returns-then-word-ge1048576 c = sym (too_wide c.args.word c.if-word-ge1048576.true)

@@ -1,7 +1,6 @@
 -- `codes::slot_type::search` meets its contract: the loop keeps that the answer is that of the codewords below k.
 -- Assumes nothing.
-use Rattle.codes.proofs.SlotWords.{slot_word-lt, computed, parities, codeword_is}
-use borrow.Author.Rules.{rules}
+use Rattle.codes.proofs.SlotWords.{computed, parities, codeword_is}
 use mathlib.Core.Path.{◌≡◌, refl, sym, ap, subst, ◌∙◌}
 use mathlib.Core.List.{List}
 use Prim.Native.Nat.{ℕ, suc, ◌+◌, ◌*◌, ◌-◌, ◌≤◌, ◌<◌}
@@ -14,7 +13,6 @@ use Rattle.polynomials.specs.Remainder.{check, divide, reduce}
 use Rattle.codes.specs.SlotWord.{with_remainder, slot_word, distance, near_below}
 use Rattle.codes.proofs.SlotReading.{hit, miss, none}
 use Rattle.codes.proofs.slot_type.search.Goals as goal
-
 
 pub loop-k-init : goal.loop-k-init
 unfolding parities computed with_remainder ones_in check divide reduce followed

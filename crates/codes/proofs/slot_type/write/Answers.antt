@@ -3,12 +3,10 @@
 use mathlib.Core.Path.{sym, subst}
 use Prim.Native.Nat.{ℕ}
 use native.Mathlib.Omega.{arith}
-use borrow.Author.Rules.{rules}
 use Rattle.codes.specs.Claims.{SlotComesBack}
 use Rattle.codes.proofs.Claims.{claims}
 use Rattle.codes.proofs.SlotWords.{slot_word-written}
 use Rattle.codes.proofs.slot_type.write.Goals as goal
-
 
 pub returns : goal.returns
 returns c =

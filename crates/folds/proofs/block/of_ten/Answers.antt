@@ -4,9 +4,7 @@ use mathlib.Core.Path.{◌∙◌}
 use native.Mathlib.Omega.{arith}
 use Rattle.foundation.proofs.OctetLists.{Octets}
 use Rattle.folds.proofs.Octets.{block_ten}
-use borrow.Author.Rules.{rules}
 use Rattle.folds.proofs.block.of_ten.Goals as goal
-
 
 pub returns : goal.returns
 returns c =

@@ -1,11 +1,9 @@
 -- `folds::block::remainder_of` meets its contract.
 -- Assumes nothing.
 use mathlib.Core.Path.{ap, ◌∙◌}
-use borrow.Author.Rules.{rules}
 use Rattle.folds.specs.Folds.{block_halved}
 use Rattle.folds.proofs.Folding.{block_folded_lem}
 use Rattle.folds.proofs.block.remainder_of.Goals as goal
-
 
 pub returns : goal.returns
 returns c =

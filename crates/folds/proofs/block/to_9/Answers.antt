@@ -1,10 +1,8 @@
 -- `folds::block::to_9` meets its contract.
 -- Assumes nothing.
 use mathlib.Core.Path.{refl}
-use borrow.Author.Rules.{rules}
 use Rattle.folds.specs.Folds.{block_halved}
 use Rattle.folds.proofs.block.to_9.Goals as goal
-
 
 pub returns : goal.returns
 unfolding block_halved

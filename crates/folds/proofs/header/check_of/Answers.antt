@@ -2,12 +2,10 @@
 -- Assumes nothing.
 use mathlib.Core.Path.{ap, ◌∙◌}
 use Prim.Native.Nat.{ℕ, ◌%◌, ◌^◌}
-use borrow.Author.Rules.{rules}
 use Rattle.polynomials.specs.Words.{up}
 use Rattle.folds.specs.Folds.{header_halved}
 use Rattle.folds.proofs.Folding.{header-checked}
 use Rattle.folds.proofs.header.check_of.Goals as goal
-
 
 pub returns : goal.returns
 returns c =

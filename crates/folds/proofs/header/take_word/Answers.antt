@@ -3,10 +3,8 @@
 use mathlib.Core.Path.{ap, ◌∙◌}
 use Prim.Native.Nat.{ℕ}
 use lib.Bits.{bit_xor}
-use borrow.Author.Rules.{rules}
 use Rattle.folds.proofs.Folding.{header-taken}
 use Rattle.folds.proofs.header.take_word.Goals as goal
-
 
 pub returns : goal.returns
 returns c =

@@ -4,7 +4,6 @@ use mathlib.Core.Path.{refl}
 use Rattle.folds.specs.Folds.{header_halved}
 use Rattle.folds.proofs.header.to_16.Goals as goal
 
-
 pub returns : goal.returns
 unfolding header_halved
 returns c = refl

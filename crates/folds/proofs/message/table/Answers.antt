@@ -5,7 +5,6 @@ use Rattle.polynomials.specs.Remainder.{divide, reduce}
 use Rattle.folds.specs.Folds.{message_table}
 use Rattle.folds.proofs.message.table.Goals as goal
 
-
 pub returns : goal.returns
 unfolding divide reduce message_table
 returns c = refl

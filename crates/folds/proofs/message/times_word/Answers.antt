@@ -3,11 +3,9 @@
 use mathlib.Core.Path.{sym, ap}
 use mathlib.Core.Bool.{Bool, cond}
 use lib.ListN.{length}
-use borrow.Author.Tests.{eq-eqb, ne_eqb}
+use borrow.Author.Tests.{eq-eqb}
 use Rattle.folds.specs.Folds.{looked}
-use borrow.Author.Rules.{rules}
 use Rattle.folds.proofs.message.times_word.Goals as goal
-
 
 pub returns : goal.returns
 unfolding looked

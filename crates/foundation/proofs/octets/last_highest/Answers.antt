@@ -1,9 +1,7 @@
 -- `foundation::octets::last_highest` meets its contract.
 -- Assumes nothing.
 use Rattle.foundation.specs.Parts.{last_highest}
-use borrow.Author.Rules.{rules}
 use Rattle.foundation.proofs.octets.last_highest.Goals as goal
-
 
 pub returns : goal.returns
 unfolding last_highest

@@ -7,9 +7,7 @@ use native.Mathlib.Nat.{div-one}
 use Rattle.foundation.specs.Bits.{tabulate}
 use Rattle.foundation.proofs.Runs.{tabulate_ext}
 use Rattle.foundation.proofs.OctetWords.{turned_octet}
-use borrow.Author.Rules.{rules}
 use Rattle.foundation.proofs.octets.octets_of.Goals as goal
-
 
 pub returns : goal.returns
 returns c =

@@ -1,16 +1,14 @@
 -- `foundation::octets::put` meets its contract.
 -- Assumes nothing.
-use mathlib.Core.Path.{◌≡◌, sym, ap, ◌∙◌}
-use mathlib.Core.List.{List, ◌++◌, append_assoc}
+use mathlib.Core.Path.{◌≡◌, sym, ◌∙◌}
+use mathlib.Core.List.{append_assoc}
 use lib.Seq.{drop-drop}
 use Rattle.foundation.specs.Octets.{over}
-use Prim.Native.Nat.{ℕ, ◌+◌, ◌-◌, ◌≤◌}
+use Prim.Native.Nat.{◌+◌, ◌-◌, ◌≤◌}
 use native.Mathlib.Omega.{arith}
 use lib.ListN.{length, take, drop}
-use borrow.Author.Rules.{rules}
 use Rattle.foundation.proofs.Copying.{put_fits, put_not}
 use Rattle.foundation.proofs.octets.put.Goals as goal
-
 
 pub returns-then-size-at : goal.returns-then-size-at
 returns-then-size-at c = let a = c.args in put_not a.to.now a.at a.octets.now (omega arith)

@@ -6,9 +6,7 @@ use native.Mathlib.Omega.{arith}
 use lib.ListN.{get_or, get_or-eq_default}
 use Rattle.foundation.proofs.OctetLists.{Octets}
 use Rattle.foundation.proofs.OctetWords.{eight_octets}
-use borrow.Author.Rules.{rules}
 use Rattle.foundation.proofs.octets.short_word.Goals as goal
-
 
 pub returns : goal.returns
 returns c =

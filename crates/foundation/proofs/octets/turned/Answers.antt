@@ -1,9 +1,7 @@
 -- `foundation::octets::turned` meets its contract.
 -- Assumes nothing.
 use Rattle.foundation.specs.Parts.{turned_octets}
-use borrow.Author.Rules.{rules}
 use Rattle.foundation.proofs.octets.turned.Goals as goal
-
 
 pub returns : goal.returns
 unfolding turned_octets

@@ -1,17 +1,11 @@
 -- `foundation::octets::whole_word` meets its contract.
 -- Assumes nothing.
 use mathlib.Core.Path.{sym, ap, ◌∙◌}
-use Prim.Native.Nat.{◌+◌, ◌*◌}
 use native.Mathlib.Omega.{arith}
-use lib.ListN.{length}
 use Rattle.foundation.specs.Parts.{turned_octets}
-use Rattle.foundation.specs.Bits.{octet_bit, value_of}
-use Rattle.foundation.proofs.Tests.{cond-lt}
 use Rattle.foundation.proofs.OctetLists.{Octets}
 use Rattle.foundation.proofs.OctetWords.{turned_back, whole_word}
-use borrow.Author.Rules.{rules}
 use Rattle.foundation.proofs.octets.whole_word.Goals as goal
-
 
 pub returns : goal.returns
 returns c =

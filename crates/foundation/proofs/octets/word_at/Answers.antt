@@ -5,9 +5,7 @@ use native.Mathlib.Omega.{arith}
 use Rattle.foundation.specs.Parts.{turned_octets}
 use Rattle.foundation.proofs.OctetLists.{Octets}
 use Rattle.foundation.proofs.OctetWords.{none-octets, turned_back}
-use borrow.Author.Rules.{rules}
 use Rattle.foundation.proofs.octets.word_at.Goals as goal
-
 
 pub returns-then-n-i : goal.returns-then-n-i
 returns-then-n-i c =

@@ -4,7 +4,6 @@ use mathlib.Core.Path.{refl}
 use Rattle.interleaver.specs.Lanes.{crossed_high}
 use Rattle.interleaver.proofs.lanes.high_4.Goals as goal
 
-
 pub returns : goal.returns
 unfolding crossed_high
 returns c = refl

@@ -4,7 +4,6 @@ use mathlib.Core.Path.{refl}
 use Rattle.interleaver.specs.Lanes.{crossed_low}
 use Rattle.interleaver.proofs.lanes.low_4.Goals as goal
 
-
 pub returns : goal.returns
 unfolding crossed_low
 returns c = refl

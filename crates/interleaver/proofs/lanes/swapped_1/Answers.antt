@@ -4,7 +4,6 @@ use mathlib.Core.Path.{refl}
 use Rattle.interleaver.specs.Lanes.{swapped}
 use Rattle.interleaver.proofs.lanes.swapped_1.Goals as goal
 
-
 pub returns : goal.returns
 unfolding swapped
 returns c = refl

@@ -2,9 +2,7 @@
 -- Assumes nothing.
 use mathlib.Core.Path.{ap, ◌∙◌}
 use Rattle.interleaver.specs.Lanes.{swapped, twos, within}
-use borrow.Author.Rules.{rules}
 use Rattle.interleaver.proofs.lanes.swapped_both.Goals as goal
-
 
 pub returns : goal.returns
 unfolding within

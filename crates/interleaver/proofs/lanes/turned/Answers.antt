@@ -2,9 +2,7 @@
 -- Assumes nothing.
 use mathlib.Core.Path.{ap₂, ◌∙◌}
 use Rattle.interleaver.specs.Lanes.{fours, eights, crossed_high, crossed_low, turned_by, turned_square}
-use borrow.Author.Rules.{rules}
 use Rattle.interleaver.proofs.lanes.turned.Goals as goal
-
 
 pub returns : goal.returns
 unfolding turned_square turned_by

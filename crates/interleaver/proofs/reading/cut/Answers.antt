@@ -2,9 +2,7 @@
 -- Assumes nothing.
 use mathlib.Core.Path.{refl}
 use Rattle.interleaver.specs.Reading.{cut_words}
-use borrow.Author.Rules.{rules}
 use Rattle.interleaver.proofs.reading.cut.Goals as goal
-
 
 pub returns : goal.returns
 unfolding cut_words

@@ -4,7 +4,6 @@ use mathlib.Core.Path.{refl}
 use Rattle.interleaver.specs.Reading.{grouped}
 use Rattle.interleaver.proofs.reading.group.Goals as goal
 
-
 pub returns : goal.returns
 unfolding grouped
 returns c = refl

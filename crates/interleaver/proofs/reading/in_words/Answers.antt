@@ -5,9 +5,7 @@ use native.Mathlib.Omega.{arith}
 use lib.ListN.{get_or}
 use Rattle.foundation.proofs.OctetWords.{whole_word}
 use Rattle.interleaver.specs.Reading.{field_words}
-use borrow.Author.Rules.{rules}
 use Rattle.interleaver.proofs.reading.in_words.Goals as goal
-
 
 pub returns-then-field-lt25 : goal.returns-then-field-lt25
 unfolding field_words

@@ -6,9 +6,7 @@ use native.Mathlib.Omega.{arith}
 use Rattle.interleaver.specs.Lanes.{turned_square}
 use Rattle.interleaver.specs.Reading.{grouped, cut_words}
 use Rattle.interleaver.proofs.Undone.{cut_square, rows-read}
-use borrow.Author.Rules.{rules}
 use Rattle.interleaver.proofs.reading.rows.Goals as goal
-
 
 pub returns : goal.returns
 returns c =

@@ -3,9 +3,7 @@
 use mathlib.Core.List.{[], ◌∷◌}
 use lib.ListN.{get_or}
 use Rattle.interleaver.specs.Writing.{field_octets}
-use borrow.Author.Rules.{rules}
 use Rattle.interleaver.proofs.writing.field_of.Goals as goal
-
 
 pub returns : goal.returns
 unfolding field_octets

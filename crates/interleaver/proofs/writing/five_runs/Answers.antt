@@ -2,9 +2,7 @@
 -- Assumes nothing.
 use mathlib.Core.Path.{refl}
 use Rattle.interleaver.specs.Writing.{five_runs}
-use borrow.Author.Rules.{rules}
 use Rattle.interleaver.proofs.writing.five_runs.Goals as goal
-
 
 pub returns : goal.returns
 unfolding five_runs

@@ -1,9 +1,7 @@
 -- `interleaver::writing::groups` meets its contract.
 -- Assumes nothing.
 use Rattle.interleaver.specs.Writing.{groups_of}
-use borrow.Author.Rules.{rules}
 use Rattle.interleaver.proofs.writing.groups.Goals as goal
-
 
 pub returns : goal.returns
 unfolding groups_of

@@ -7,9 +7,7 @@ use Rattle.polynomials.specs.Words.{up}
 use Rattle.interleaver.specs.Lanes.{turned_square}
 use Rattle.interleaver.specs.Writing.{groups_of}
 use Rattle.interleaver.proofs.Made.{octets-sent}
-use borrow.Author.Rules.{rules}
 use Rattle.interleaver.proofs.writing.octets.Goals as goal
-
 
 pub returns : goal.returns
 returns c =

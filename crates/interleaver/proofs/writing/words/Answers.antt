@@ -2,9 +2,7 @@
 -- Assumes nothing.
 use mathlib.Core.Path.{refl}
 use Rattle.interleaver.specs.Writing.{fifteen}
-use borrow.Author.Rules.{rules}
 use Rattle.interleaver.proofs.writing.words.Goals as goal
-
 
 pub returns : goal.returns
 unfolding fifteen

@@ -1,0 +1,26 @@
+-- `packets::block::read` meets its contract.
+-- Assumes nothing.
+use mathlib.Core.Path.{sym, ◌∙◌}
+use native.Mathlib.Omega.{arith}
+use Prim.Native.Nat.{◌/◌}
+use lib.ListN.{get_or}
+use borrow.Author.Tests.{not-true, not-false}
+use borrow.Author.Rules.{rules}
+use Rattle.packets.proofs.BlockReading.{size-refused, check-refused, accepted}
+use Rattle.packets.proofs.block.read.Goals as goal
+
+
+pub returns-then-octets-ne12 : goal.returns-then-octets-ne12
+returns-then-octets-ne12 c = c.refused.ensures ∙ size-refused c.args.octets.now c.if-octets-ne12.true
+
+pub returns-then-not-block_good : goal.returns-then-not-block_good
+returns-then-not-block_good c =
+    c.refused-then-not-block_good.ensures
+    ∙ check-refused c.args.octets.now (omega arith) (sym c.block_good.ensures ∙ c.if-not-block_good.true)
+
+pub returns : goal.returns
+returns c =
+    let b = c.args.octets.now in
+    let e = c.data_of.ensures in
+    (λ i. record { number = 0; serial = get_or b 0 0 / 2; octets = e i })
+    ∙ accepted b (omega arith) (sym c.block_good.ensures ∙ c.if-not-block_good.false)
