@@ -53,7 +53,7 @@ class Names:
 
     def step(self, at, old):
         """The new name of the step `old`, at the place `at` or above it."""
-        old = re.sub(r"_lem$", "", old)
+        old = re.sub(r"_lem$", "", {"type_size": "size_of"}.get(old, old))
         seen = set()
         while at is not None and at in self.places and at not in seen:
             seen.add(at)
@@ -83,9 +83,11 @@ class Names:
 
     def term(self, at, text):
         alias = {"c"}
-        for m in re.finditer(r"let ([\w']+)(?: : [^=]*)? = c(?:\.before)+ in", text):
-            alias.add(m.group(1))
-        text = re.sub(r"(let [\w']+(?: : [^=]*)? = c)(?:\.before)+ in", r"\1 in", text)
+        while True:
+            m = re.search(r"let ([\w']+)(?: : [^=]*)? = c(?:\.before)+ in *(?:\n *)?", text)
+            if not m:
+                break
+            text = text[: m.start()] + re.sub(rf"(?<![\w.'-]){re.escape(m.group(1))}(?![\w'-])", "c", text[m.end():])
 
         def turn(m):
             head, name, rest = m.group(1), m.group(3), m.group(4)
@@ -106,7 +108,7 @@ class Names:
         while True:
             for m in re.finditer(r"let ([\w']+) = (c(?:\.before)*\.([\w-]+)(?:\.[\w-]+)*) in *(?:\n *)?", text):
                 if norm(re.sub(r"_lem$", "", m.group(3))) in steps and ".given" in m.group(2):
-                    text = text[: m.start()] + re.sub(rf"(?<![\w.'-]){re.escape(m.group(1))}(?=\.)", m.group(2), text[m.end():])
+                    text = text[: m.start()] + re.sub(rf"(?<![\w.'-]){re.escape(m.group(1))}(?![\w'-])", m.group(2), text[m.end():])
                     break
             else:
                 break
@@ -128,6 +130,12 @@ class Names:
             return f"c.{step}.ensures.{names[int(m.group(3))]}" if names and int(m.group(3)) < len(names) else m.group()
 
         text = re.sub(r"(?<![\w.'-])(c)\.([\w-]+)\.ensures\.(\d+)", clause, text)
+
+        def alone(m):
+            names = self.clauses.get(m.group(1))
+            return f"c.{m.group(1)}.ensures.{names[0]}" if names and len(names) == 1 else m.group()
+
+        text = re.sub(r"(?<![\w.'-])c\.([\w-]+)\.ensures(?![\w.'-])", alone, text)
 
         def local_clause(m):
             names = self.clauses.get(local.get(m.group(1), ""))
@@ -192,6 +200,8 @@ def invariants(folder, key, it):
     where = os.path.join(folder, "proofs", folder_of(key))
     path = os.path.join(where, "Proof.antt")
     if not os.path.exists(path):
+        path = os.path.join(where, "Proof.old")
+    if not os.path.exists(path):
         return
     text = open(path, encoding="utf-8").read()
     head, decls = blocks(text)
@@ -223,7 +233,11 @@ def invariants(folder, key, it):
     if said and module:
         comment = [l for l in head if l.startswith("--")]
         with open(os.path.join(where, "Invariants.antt"), "w", encoding="utf-8") as f:
-            f.write("\n".join(comment + uses(head) + [f"use {module.group(1)}.Given as goal"] + said) + "\n")
+            own = []
+            for d in decls:
+                if not d[1].startswith("tie.") and "statement M" not in d[1] and "tie." not in "".join(d[2]) + d[1] and any(d[0] in l for l in said):
+                    own += ["", d[3] if "pub" in d[3].split(d[0])[0] else d[3].replace(d[0], "pub " + d[0], 1), "\n".join(d[2]).rstrip()]
+            f.write("\n".join(comment + uses(head) + [f"use {module.group(1)}.Given as goal"] + own + said) + "\n")
     os.rename(path, os.path.join(where, "Proof.old"))
 
 
@@ -259,7 +273,17 @@ def answers(folder, key, it, opened):
                     given[names.needs[old]] = (turned, d[2])
                     break
         elif not re.match(r"tie\.|\{M|.*statement M", d[1]) and not d[0].endswith(("_spec", "-spec")):
-            helpers += [d[3]] + d[2]
+            text_of = "\n".join([d[3]] + d[2])
+            place = re.search(r"tie\.([A-Z][\w-]*)", text_of)
+            if place:
+                rows = {norm(p[0]): (p[0], n) for p, n in zip(it["places"], it["places_by_name"])}
+                was, now = rows.get(norm(place.group(1)), (None, None))
+                if now:
+                    text_of = re.sub(r"tie\.[A-Z][\w-]*(?: (?:invariant|decreases)-[\w-]+)*", "goal." + now, text_of)
+                    text_of = names.term(was, text_of)
+                    for n, a in enumerate(arrays_of(key), 1):
+                        text_of = re.sub(rf"(\.args|\ba)\.t{n}(?![\w'-])", rf"\1.{a}", text_of)
+            helpers += text_of.split("\n")
     out = []
     for goal in wanted:
         base = re.sub(r"-clause-\w+$", "", goal)

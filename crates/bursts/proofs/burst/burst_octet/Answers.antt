@@ -2,10 +2,8 @@
 -- Assumes nothing.
 use Prim.Native.Nat.{◌-◌}
 use native.Mathlib.Omega.{arith}
-use borrow.Author.Rules.{rules}
 use Rattle.bursts.proofs.Writing.{octet_field, octet_12, octet_13, octet_sync, octet_19, octet_20, octet_field_end}
 use Rattle.bursts.proofs.burst.burst_octet.Goals as goal
-
 
 pub returns-then-j-lt12 : goal.returns-then-j-lt12
 returns-then-j-lt12 c =

@@ -1,13 +1,12 @@
 -- `bursts::burst::burst_octets` meets its contract: the first j octets are filled.
 -- Assumes nothing.
-use Prim.Native.Nat.{◌*◌, ◌-◌, ◌≤◌}
+use Prim.Native.Nat.{◌*◌}
 use native.Mathlib.Omega.{arith}
 use lib.Dec.{lit≤}
 use Rattle.foundation.specs.Bits.{value_of, octets}
-use Rattle.foundation.proofs.Filling.{Filled, filled-start, filled_more, filled_done}
+use Rattle.foundation.proofs.Filling.{filled-start, filled_done}
 use Rattle.bursts.specs.Bursts.{burst_bits}
 use Rattle.bursts.proofs.burst.burst_octets.Goals as goal
-
 
 pub loop-j-init : goal.loop-j-init
 loop-j-init c =

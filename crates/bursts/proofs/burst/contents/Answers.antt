@@ -1,10 +1,8 @@
 -- `bursts::burst::contents` meets its contract.
 -- Assumes nothing.
 use mathlib.Core.Path.{◌∙◌}
-use borrow.Author.Rules.{rules}
 use Rattle.bursts.proofs.Numbers.{contents_refused, contents_read}
 use Rattle.bursts.proofs.burst.contents.Goals as goal
-
 
 pub returns-then-got-ne0 : goal.returns-then-got-ne0
 returns-then-got-ne0 c =

@@ -1,11 +1,9 @@
 -- `bursts::burst::field` meets its contract.
 -- Assumes nothing.
 use mathlib.Core.Path.{ap, ◌∙◌}
-use borrow.Author.Rules.{rules}
 use Rattle.codes.specs.Field.{read_field}
 use Rattle.bursts.proofs.Numbers.{field-size, field-read}
 use Rattle.bursts.proofs.burst.field.Goals as goal
-
 
 pub returns-then-burst-ne33 : goal.returns-then-burst-ne33
 returns-then-burst-ne33 c = c.read.ensures ∙ field-size c.args.burst.now c.if-burst-ne33.true

@@ -3,9 +3,7 @@
 use mathlib.Core.Path.{◌∙◌}
 use Rattle.bursts.specs.Bursts.{field_of}
 use Rattle.bursts.proofs.Reading.{field_words_lem}
-use borrow.Author.Rules.{rules}
 use Rattle.bursts.proofs.burst.field_octets.Goals as goal
-
 
 pub returns : goal.returns
 unfolding field_of

@@ -3,13 +3,11 @@
 use mathlib.Core.Path.{sym, ◌∙◌}
 use Prim.Native.Nat.{◌%◌}
 use native.Mathlib.Omega.{arith}
-use borrow.Author.Rules.{rules}
 use Rattle.bursts.proofs.Variants.{kind-known, slot-refused}
 use Rattle.bursts.proofs.DataTypes.{other_unknown}
 use Rattle.bursts.proofs.Numbers.{number_size, number-slot, number_type, read-refused}
 use borrow.Enum.Refused.{opened}
 use Rattle.bursts.proofs.burst.read.Goals as goal
-
 
 pub returns-then-burst-ne33 : goal.returns-then-burst-ne33
 returns-then-burst-ne33 c =

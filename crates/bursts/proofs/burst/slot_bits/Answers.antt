@@ -1,10 +1,8 @@
 -- `bursts::burst::slot_bits` meets its contract.
 -- Assumes nothing.
 use native.Mathlib.Omega.{arith}
-use borrow.Author.Rules.{rules}
 use Rattle.bursts.proofs.Reading.{slot-parts}
 use Rattle.bursts.proofs.burst.slot_bits.Goals as goal
-
 
 pub returns : goal.returns
 returns c =

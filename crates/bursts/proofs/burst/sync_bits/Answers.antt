@@ -1,9 +1,7 @@
 -- `bursts::burst::sync_bits` meets its contract.
 -- Assumes nothing.
-use borrow.Author.Rules.{rules}
 use Rattle.bursts.specs.Bursts.{sync_word}
 use Rattle.bursts.proofs.burst.sync_bits.Goals as goal
-
 
 pub returns-in-Base : goal.returns-in-Base
 unfolding sync_word

@@ -23,7 +23,6 @@ both : (colour type : ℕ) (info : List ℕ) (sync : Sync) (r : BurstOctets) →
     → r ≡ write_burst colour type info sync → (r ≡ write_burst colour type info sync) × (r.number ≡ 0 → BurstComesBack colour type info r.octets)
 both colour type info sync r size octet is = (is, answer_back colour type info sync size octet r is)
 
-
 pub returns-then-colour-ge16 : goal.returns-then-colour-ge16
 returns-then-colour-ge16 c =
     let a = c.args in

@@ -1,9 +1,7 @@
 -- `bursts::burst::written` meets its contract.
 -- Assumes nothing.
-use borrow.Author.Rules.{rules}
 use Rattle.bursts.proofs.Writing.{octets-written}
 use Rattle.bursts.proofs.burst.written.Goals as goal
-
 
 pub returns : goal.returns
 returns c =

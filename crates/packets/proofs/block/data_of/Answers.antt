@@ -1,10 +1,8 @@
 -- `packets::block::data_of` meets its contract.
 -- Assumes nothing.
 use mathlib.Core.Path.{◌∙◌}
-use borrow.Author.Rules.{rules}
 use Rattle.packets.proofs.BlockReading.{data_is}
 use Rattle.packets.proofs.block.data_of.Goals as goal
-
 
 pub returns : goal.returns
 returns c =

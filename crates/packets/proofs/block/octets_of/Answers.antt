@@ -2,11 +2,9 @@
 -- Assumes nothing.
 use mathlib.Core.Path.{◌∙◌}
 use native.Mathlib.Omega.{arith}
-use borrow.Author.Rules.{rules}
 use Rattle.checks.proofs.BlockChecks.{block_check-lt}
 use Rattle.packets.proofs.BlockWriting.{whole}
 use Rattle.packets.proofs.block.octets_of.Goals as goal
-
 
 pub overflow_add-os : goal.overflow_add-os
 overflow_add-os c = omega (arith, c.block-check.ensures.0, block_check-lt c.args.serial c.args.octets.now)

@@ -4,11 +4,8 @@ use mathlib.Core.Path.{sym, ◌∙◌}
 use native.Mathlib.Omega.{arith}
 use Prim.Native.Nat.{◌/◌}
 use lib.ListN.{get_or}
-use borrow.Author.Tests.{not-true, not-false}
-use borrow.Author.Rules.{rules}
 use Rattle.packets.proofs.BlockReading.{size-refused, check-refused, accepted}
 use Rattle.packets.proofs.block.read.Goals as goal
-
 
 pub returns-then-octets-ne12 : goal.returns-then-octets-ne12
 returns-then-octets-ne12 c = c.refused.ensures ∙ size-refused c.args.octets.now c.if-octets-ne12.true

@@ -5,7 +5,6 @@ use mathlib.Core.Path.{◌≡◌, sym, subst, ◌∙◌}
 use mathlib.Core.List.{List}
 use Prim.Native.Nat.{ℕ}
 use native.Mathlib.Omega.{arith}
-use borrow.Author.Rules.{rules}
 use Rattle.packets.specs.Blocks.{write_block}
 use Rattle.packets.specs.BlockClaims.{BlockReadsBack}
 use Rattle.packets.specs.declared.block.BlockOctets.{BlockOctets}
@@ -15,7 +14,6 @@ use Rattle.packets.proofs.block.write.Goals as goal
 
 both : (serial : ℕ) (os : List ℕ) (r : BlockOctets) → r ≡ write_block serial os → (r ≡ write_block serial os) × BlockReadsBack serial os r
 both serial os r is = (is, subst (BlockReadsBack serial os) (sym is) (claims.reads_back serial os))
-
 
 pub returns-then-octets-ne10 : goal.returns-then-octets-ne10
 returns-then-octets-ne10 c = let a = c.args in both _ _ _ (size-refused a.serial a.octets.now c.if-octets-ne10.true)

@@ -2,13 +2,11 @@
 -- Assumes nothing.
 use mathlib.Core.Path.{sym, ◌∙◌}
 use native.Mathlib.Omega.{arith}
-use borrow.Author.Tests.{le-ltb, not-true, not-false}
-use borrow.Author.Rules.{rules}
+use borrow.Author.Tests.{le-ltb}
 use Rattle.packets.specs.Headers.{common_widths}
 use Rattle.packets.proofs.Widths.{one_fails}
 use Rattle.packets.proofs.HeaderWriting.{common_decides}
 use Rattle.packets.proofs.header.common_fits.Goals as goal
-
 
 pub returns-then-c-ge2 : goal.returns-then-c-ge2
 unfolding common_widths

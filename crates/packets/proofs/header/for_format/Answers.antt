@@ -5,7 +5,6 @@ use native.Mathlib.Omega.{arith}
 use Rattle.packets.specs.Headers.{header_for}
 use Rattle.packets.proofs.header.for_format.Goals as goal
 
-
 pub returns-in-1 : goal.returns-in-1
 unfolding header_for
 returns-in-1 c = rw (eq-eqb _ 1 c.in-1.is)

@@ -2,10 +2,8 @@
 -- Assumes nothing.
 use native.Mathlib.Omega.{arith}
 use borrow.Author.Tests.{le-ltb}
-use borrow.Author.Rules.{rules}
 use Rattle.packets.proofs.HeaderWriting.{response_wide, response_decides, confirmed_wide, confirmed_decides, unconfirmed_decides}
 use Rattle.packets.proofs.header.last_fits.Goals as goal
-
 
 pub returns-then-class-ge4 : goal.returns-then-class-ge4
 returns-then-class-ge4 c = response_wide _ _ _ _ _ c.in-Response.is 0 (le-ltb _ _ c.if-class-ge4.true)

@@ -1,9 +1,7 @@
 -- `packets::header::octets_of` meets its contract.
 -- Assumes nothing.
-use borrow.Author.Rules.{rules}
 use Rattle.packets.proofs.HeaderWriting.{octets_are}
 use Rattle.packets.proofs.header.octets_of.Goals as goal
-
 
 pub returns : goal.returns
 returns c =

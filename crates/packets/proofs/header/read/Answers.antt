@@ -3,14 +3,11 @@
 use mathlib.Core.Path.{◌≡◌, sym, ap, ◌∙◌}
 use Prim.Native.Nat.{◌%◌}
 use native.Mathlib.Omega.{arith}
-use borrow.Author.Tests.{not-true, not-false}
 use lib.ListN.{get_or}
-use borrow.Author.Rules.{rules}
 use Rattle.packets.specs.Headers.{format_of, known_format}
 use Rattle.packets.specs.declared.header.HeaderAnswer.TheVariants.{Accepted}
 use Rattle.packets.proofs.HeaderReading.{size-refused, check-refused, format-refused, accepted}
 use Rattle.packets.proofs.header.read.Goals as goal
-
 
 pub returns-then-octets-ne12 : goal.returns-then-octets-ne12
 returns-then-octets-ne12 c = size-refused c.args.octets.now c.if-octets-ne12.true

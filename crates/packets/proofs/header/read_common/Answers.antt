@@ -1,9 +1,7 @@
 -- `packets::header::read_common` meets its contract.
 -- Assumes nothing.
-use borrow.Author.Rules.{rules}
 use Rattle.packets.proofs.HeaderReading.{common_is}
 use Rattle.packets.proofs.header.read_common.Goals as goal
-
 
 pub returns : goal.returns
 returns c =

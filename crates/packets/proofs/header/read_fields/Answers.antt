@@ -1,10 +1,8 @@
 -- `packets::header::read_fields` meets its contract.
 -- Assumes nothing.
 use native.Mathlib.Omega.{arith}
-use borrow.Author.Rules.{rules}
 use Rattle.packets.proofs.HeaderReading.{format_1, format_2, format_3}
 use Rattle.packets.proofs.header.read_fields.Goals as goal
-
 
 pub returns-in-1 : goal.returns-in-1
 returns-in-1 c =

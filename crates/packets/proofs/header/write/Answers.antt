@@ -3,8 +3,7 @@
 -- what is answered, and that it reads back
 use mathlib.Core.Path.{◌≡◌, sym, subst, ◌∙◌}
 use native.Mathlib.Omega.{arith}
-use borrow.Author.Tests.{not-true, not-false, eqb-true}
-use borrow.Author.Rules.{rules}
+use borrow.Author.Tests.{eqb-true}
 use Rattle.packets.specs.Headers.{write_header}
 use Rattle.packets.specs.HeaderClaims.{HeaderReadsBack}
 use Rattle.packets.specs.declared.header.Header.{Header}
@@ -15,7 +14,6 @@ use Rattle.packets.proofs.header.write.Goals as goal
 
 both : (h : Header) (r : HeaderOctets) → r ≡ write_header h → (r ≡ write_header h) × HeaderReadsBack h r
 both h r is = (is, subst (HeaderReadsBack h) (sym is) (claims.reads_back h))
-
 
 pub returns-then-not-common_fits : goal.returns-then-not-common_fits
 returns-then-not-common_fits c =

@@ -1,0 +1,27 @@
+-- `transactions::flags::with` meets its contract.
+-- Assumes nothing.
+use mathlib.Core.Path.{sym, ◌∙◌}
+use Prim.Native.Nat.{◌/◌}
+use native.Mathlib.Omega.{arith}
+use mir.Syntax.{w8}
+use mir.Val.{Fits}
+use lib.ListN.{get_or}
+use borrow.Author.Rules.{rules, elem_Fits}
+use Rattle.transactions.proofs.FlagOctets.{past_with, held_with, more_with, room_with}
+use Rattle.transactions.proofs.flags.with.Goals as goal
+
+
+pub returns-then-n-ge-FLAGS : goal.returns-then-n-ge-FLAGS
+returns-then-n-ge-FLAGS c = let a = c.args in sym (past_with a.flags a.n (omega arith))
+
+pub returns-then-is_set : goal.returns-then-is_set
+returns-then-is_set c = let a = c.args in sym (held_with a.flags a.n (sym c.is_set.ensures ∙ c.if-is_set.true))
+
+pub overflow_add-next : goal.overflow_add-next
+overflow_add-next c =
+    let a = c.args in
+    let octet : Fits w8 (get_or a.flags (a.n / 8) 0) = elem_Fits w8 w8 a.flags _ (a.n / 8) c.well_formed.0.1.1 tt in
+    record { fits = room_with a.flags a.n octet.fits (sym c.is_set.ensures ∙ c.if-is_set.false) }
+
+pub returns : goal.returns
+returns c = let a = c.args in more_with a.flags a.n (sym c.is_set.ensures ∙ c.if-is_set.false)

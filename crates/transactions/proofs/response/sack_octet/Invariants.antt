@@ -1,0 +1,23 @@
+-- `transactions::response::sack_octet` meets its contract.
+-- Assumes nothing.
+-- whether a SACK has 1 for block n
+use mathlib.Core.Path.{◌≡◌, refl, sym, ap, ◌∙◌}
+use mathlib.Core.Bool.{Bool, cond, true}
+use mathlib.Core.List.{List}
+use mathlib.Core.Logic.{⊎_elim}
+use Prim.Native.Nat.{ℕ, ◌*◌, ◌-◌, ◌≤◌}
+use native.Mathlib.Omega.{arith}
+use lib.Dec.{leb}
+use borrow.Author.Rules.{rules}
+use Rattle.transactions.specs.Flags.{flagged, weights}
+use Rattle.transactions.proofs.FlagOctets.{weights-room, weights-held, weights_other}
+use Rattle.transactions.proofs.response.sack_octet.Given as goal
+
+abbrev pub is_one : List ℕ → ℕ → ℕ → Bool
+is_one flags blocks n = cond (flagged flags n) true (leb blocks n)
+
+abbrev pub invariant-loop-k : goal.invariant-loop-k
+invariant-loop-k l = (l.k ≤ 8) × (l.octet ≡ weights (is_one l.flags l.blocks) (8 * l.j) l.k)
+
+abbrev pub decreases-loop-k : goal.decreases-loop-k
+decreases-loop-k l = 8 - l.k
