@@ -1,6 +1,6 @@
 /* Writes the captures and logs of this folder, and the inputs that the programs' own runs take, with the writers of the library.
 
-       cc -I include examples/make.c target/staticlib/libcapi.a -o make && ./make FOLDER
+       cc -I include examples/make.c crates/capi/out/libcapi.a -o make && ./make FOLDER
 
    What no writer of ours writes, since it would be refused on reading, is a thing written and then changed: bits of a burst, octets of
    a header or a block. */

@@ -10,7 +10,7 @@
 
    Addresses are radio addresses of 24 bits, the most significant octet first where they stand in octets.
 
-   Link with target/staticlib/libcapi.a, which `rt staticlib capi` writes. Each function below is proved, for every
+   Link with crates/capi/out/libcapi.a, which `rt lib` writes where it is called in crates/capi. Each function below is proved, for every
    input, to meet its contract in crates/capi/src, whose definitions stand in crates/capi/specs and in the specs/ of the crates below. */
 #ifndef KIRRUSKABE_H
 #define KIRRUSKABE_H

@@ -1,6 +1,6 @@
 /* A gateway that saves, acts and restarts, and hands each message on once.
 
-       cc -I include tests/example.c target/staticlib/libcapi.a -o example && ./example [FOLDER]
+       cc -I include tests/example.c crates/capi/out/libcapi.a -o example && ./example [FOLDER]
 
    It saves before it acts: else a cut between the two would double the message. So that such a cut does not lose it either, the gateway
    looks at its start for a message that is saved as complete and was not handed on. FOLDER is empty at first; without one, one is made. */

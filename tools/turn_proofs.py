@@ -54,6 +54,9 @@ class Names:
     def step(self, at, old):
         """The new name of the step `old`, at the place `at` or above it."""
         old = re.sub(r"_lem$", "", {"type_size": "size_of"}.get(old, old))
+        m = re.fullmatch(r"fits-?(\d+)", old)
+        if m:
+            old = "fits" if m.group(1) == "2" else f"fits{int(m.group(1)) - 1}"
         seen = set()
         while at is not None and at in self.places and at not in seen:
             seen.add(at)
@@ -150,13 +153,23 @@ class Names:
             lent = lent_by(self.callee.get(step, "")) if step else []
             n = int(m.group(3))
             head = f"c.{m.group(2)}" if m.group(1) == "c" else m.group(1)
-            return f"{head}.new.{lent[n]}" if n < len(lent) else m.group()
+            return f"{head}.{m.group(4)}.{lent[n]}" if n < len(lent) else m.group()
 
-        text = re.sub(r"(?<![\w.'-])(c)\.([\w-]+)\.new\.(\d+)", left, text)
-        return re.sub(r"(?<![\w.'-])([\w']+)()\.new\.(\d+)", left, text)
+        text = re.sub(r"(?<![\w.'-])(c)\.([\w-]+)\.(?=(new|auto)\.)(?:new|auto)\.(\d+)", lambda m: left(Lent(m, 4, 3)), text)
+        return re.sub(r"(?<![\w.'-])([\w']+)()\.(?=(new|auto)\.)(?:new|auto)\.(\d+)", lambda m: left(Lent(m, 4, 3)), text)
+
+class Lent:
+    """A match whose third group is the number and whose fourth the word before it."""
+
+    def __init__(self, m, number, word):
+        self.m, self.order = m, {3: number, 4: word}
+
+    def group(self, n=0):
+        return self.m.group(self.order.get(n, n))
+
 
 def arrays_of(key):
-    """The array parameters of a function of this crate, in order: the older proofs call them t1, t2 and so on."""
+    """The parameters of a function of this crate, in order: of an array the older proofs know the place alone, as t1, t2 and so on."""
     parts = folder_of(key).split("/")
     for root, _, names in os.walk(os.path.join(FOLDER, "src")):
         for name in names:
@@ -165,7 +178,7 @@ def arrays_of(key):
                 continue
             m = re.search(r"fn " + re.escape(parts[-1]) + r"\(([^)]*)\)", text)
             if m:
-                return [p.split(":")[0].strip().split()[-1] for p in re.split(r",(?![^\[]*\])", m.group(1)) if ":" in p and p.split(":", 1)[1].strip().startswith("[")]
+                return [p.split(":")[0].strip().split()[-1] for p in re.split(r",(?![^\[]*\])", m.group(1)) if ":" in p]
     return []
 
 

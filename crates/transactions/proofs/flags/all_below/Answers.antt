@@ -2,13 +2,11 @@
 -- Assumes nothing.
 use mathlib.Core.Path.{sym, ◌∙◌}
 use native.Mathlib.Omega.{arith}
-use borrow.Author.Rules.{rules}
 use Rattle.transactions.specs.Flags.{flag_count, flagged}
 use Rattle.foundation.proofs.Every.{every_fails}
 use Rattle.transactions.proofs.FlagOctets.{flagged_far}
 use Rattle.transactions.proofs.FlagWords.{all-below}
 use Rattle.transactions.proofs.flags.all_below.Goals as goal
-
 
 pub returns-then-n-gt-FLAGS : goal.returns-then-n-gt-FLAGS
 returns-then-n-gt-FLAGS c =

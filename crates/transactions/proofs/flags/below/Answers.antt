@@ -1,9 +1,7 @@
 -- `transactions::flags::below` meets its contract.
 -- Assumes nothing.
-use borrow.Author.Rules.{rules}
-use Rattle.transactions.proofs.FlagWords.{below_none, below_all, below_some, power_some}
+use Rattle.transactions.proofs.FlagWords.{below_none, below_all, below_some}
 use Rattle.transactions.proofs.flags.below.Goals as goal
-
 
 pub returns-then-n-j : goal.returns-then-n-j
 returns-then-n-j c = below_none c.args.n c.args.j c.if-n-j.true

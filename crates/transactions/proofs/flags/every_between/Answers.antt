@@ -4,13 +4,11 @@
 use mathlib.Core.Path.{◌≡◌, sym, ap, ◌∙◌}
 use mathlib.Core.Bool.{Bool}
 use mathlib.Core.List.{List}
-use Prim.Native.Nat.{ℕ, ◌+◌, ◌*◌, ◌≤◌}
+use Prim.Native.Nat.{ℕ, ◌+◌, ◌*◌}
 use native.Mathlib.Omega.{arith}
-use borrow.Author.Rules.{rules}
 use borrow.Author.Tests.{eq-eqb, ne_eqb}
 use Rattle.foundation.specs.Order.{every}
 use Rattle.foundation.proofs.Order.{every_stops, every_goes}
-use Rattle.transactions.specs.Flags.{flag_count}
 use Rattle.transactions.specs.Parts.{word_count, as_wanted}
 use Rattle.foundation.proofs.Every.{every_runs}
 use Rattle.transactions.proofs.FlagWords.{word_decides}
@@ -18,7 +16,6 @@ use Rattle.transactions.proofs.flags.every_between.Goals as goal
 
 abbrev word-wanted : List ℕ → ℕ → ℕ → Bool → ℕ → Bool
 word-wanted flags from to wanted j = every 64 (λ i. as_wanted flags from to wanted (64 * j + i))
-
 
 pub loop-j-init : goal.loop-j-init
 loop-j-init c = let a = c.args in (omega arith, every_runs (as_wanted a.flags a.from a.to a.wanted) 64 word_count)

@@ -1,19 +1,13 @@
 -- `transactions::flags::every_between` meets its contract.
 -- Assumes nothing.
 -- every block of word j is as wanted
-use mathlib.Core.Path.{◌≡◌, sym, ap, ◌∙◌}
+use mathlib.Core.Path.{◌≡◌}
 use mathlib.Core.Bool.{Bool}
 use mathlib.Core.List.{List}
 use Prim.Native.Nat.{ℕ, ◌+◌, ◌*◌, ◌≤◌}
-use native.Mathlib.Omega.{arith}
-use borrow.Author.Rules.{rules}
-use borrow.Author.Tests.{eq-eqb, ne_eqb}
 use Rattle.foundation.specs.Order.{every}
-use Rattle.foundation.proofs.Order.{every_stops, every_goes}
 use Rattle.transactions.specs.Flags.{flag_count}
 use Rattle.transactions.specs.Parts.{word_count, as_wanted}
-use Rattle.foundation.proofs.Every.{every_runs}
-use Rattle.transactions.proofs.FlagWords.{word_decides}
 use Rattle.transactions.proofs.flags.every_between.Given as goal
 
 abbrev pub word-wanted : List ℕ → ℕ → ℕ → Bool → ℕ → Bool

@@ -2,12 +2,10 @@
 -- Assumes nothing.
 use mathlib.Core.Path.{◌∙◌}
 use native.Mathlib.Omega.{arith}
-use borrow.Author.Rules.{rules}
 use Rattle.transactions.specs.Flags.{flag_count}
 use Rattle.transactions.proofs.FlagOctets.{flagged_far}
 use Rattle.transactions.proofs.FlagWords.{none_below}
 use Rattle.transactions.proofs.flags.none_below.Goals as goal
-
 
 pub returns : goal.returns
 returns c =

@@ -6,10 +6,9 @@ use native.Mathlib.Omega.{arith}
 use mir.Syntax.{w8}
 use mir.Val.{Fits}
 use lib.ListN.{get_or}
-use borrow.Author.Rules.{rules, elem_Fits}
+use borrow.Author.Rules.{elem_Fits}
 use Rattle.transactions.proofs.FlagOctets.{past_with, held_with, more_with, room_with}
 use Rattle.transactions.proofs.flags.with.Goals as goal
-
 
 pub returns-then-n-ge-FLAGS : goal.returns-then-n-ge-FLAGS
 returns-then-n-ge-FLAGS c = let a = c.args in sym (past_with a.flags a.n (omega arith))

@@ -1,18 +1,16 @@
 -- `transactions::flags::word` meets its contract.
 -- Assumes nothing.
-use mathlib.Core.Path.{◌≡◌, ap, ◌∙◌}
-use Prim.Native.Nat.{ℕ, ◌*◌, ◌-◌, ◌≤◌, ◌<◌}
+use Prim.Native.Nat.{ℕ, ◌<◌}
 use native.Mathlib.Omega.{arith}
 use mir.Syntax.{w8}
 use lib.ListN.{get_or}
-use borrow.Author.Rules.{rules, elem_Fits}
-use Rattle.transactions.specs.Flags.{flagged, weights}
+use borrow.Author.Rules.{elem_Fits}
+use Rattle.transactions.specs.Flags.{weights}
 use Rattle.transactions.proofs.FlagWords.{word_more, word_room}
 use Rattle.transactions.proofs.flags.word.Goals as goal
 
 octet : (c : goal.In-loop-k) (i : ℕ) → get_or c.args.flags i 0 < 256
 octet c i = (elem_Fits w8 w8 c.args.flags _ i c.well_formed.0.1.1 tt).fits
-
 
 pub loop-k-init : goal.loop-k-init
 unfolding weights

@@ -1,13 +1,8 @@
 -- `transactions::flags::word` meets its contract.
 -- Assumes nothing.
-use mathlib.Core.Path.{◌≡◌, ap, ◌∙◌}
-use Prim.Native.Nat.{ℕ, ◌*◌, ◌-◌, ◌≤◌, ◌<◌}
-use native.Mathlib.Omega.{arith}
-use mir.Syntax.{w8}
-use lib.ListN.{get_or}
-use borrow.Author.Rules.{rules, elem_Fits}
+use mathlib.Core.Path.{◌≡◌}
+use Prim.Native.Nat.{◌*◌, ◌-◌, ◌≤◌}
 use Rattle.transactions.specs.Flags.{flagged, weights}
-use Rattle.transactions.proofs.FlagWords.{word_more, word_room}
 use Rattle.transactions.proofs.flags.word.Given as goal
 
 abbrev pub invariant-loop-k : goal.invariant-loop-k

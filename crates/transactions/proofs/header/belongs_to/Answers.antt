@@ -2,10 +2,9 @@
 -- Assumes nothing.
 use mathlib.Core.Bool.{true}
 use native.Mathlib.Omega.{arith}
-use borrow.Author.Tests.{ne_eqb, not-true, not-false}
+use borrow.Author.Tests.{ne_eqb}
 use Rattle.transactions.proofs.Hearing.{field_differs, count_decides}
 use Rattle.transactions.proofs.header.belongs_to.Goals as goal
-
 
 pub returns-then-from-other : goal.returns-then-from-other
 returns-then-from-other c =

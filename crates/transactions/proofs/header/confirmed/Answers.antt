@@ -1,9 +1,7 @@
 -- `transactions::header::confirmed` meets its contract.
 -- Assumes nothing.
-use borrow.Author.Rules.{rules}
 use Rattle.transactions.proofs.Hearing.{by_refused, by_taken}
 use Rattle.transactions.proofs.header.confirmed.Goals as goal
-
 
 pub returns-then-number-ne0 : goal.returns-then-number-ne0
 returns-then-number-ne0 c =

@@ -1,11 +1,9 @@
 -- `transactions::header::hear` meets its contract.
 -- Assumes nothing.
 use mathlib.Core.Path.{sym, ap, ◌∙◌}
-use borrow.Author.Rules.{rules}
 use Rattle.packets.specs.declared.header.HeaderAnswer.TheVariants.{Accepted}
 use Rattle.transactions.proofs.Hearing.{read-refused, response-refused, unconfirmed-refused, confirmed_is}
 use Rattle.transactions.proofs.header.hear.Goals as goal
-
 
 pub returns-in-Response : goal.returns-in-Response
 returns-in-Response c =

@@ -1,10 +1,8 @@
 -- `transactions::header::number_of` meets its contract.
 -- Assumes nothing.
 use native.Mathlib.Omega.{arith}
-use borrow.Author.Rules.{rules}
 use Rattle.transactions.proofs.Hearing.{group-refused, request_refused, destination-refused, none-refused, many_refused, partial_taken, pad-refused, pad-taken}
 use Rattle.transactions.proofs.header.number_of.Goals as goal
-
 
 pub returns-then-c-ne0 : goal.returns-then-c-ne0
 returns-then-c-ne0 c =

@@ -1,11 +1,9 @@
 -- `transactions::response::reply` meets its contract.
 -- Assumes nothing.
 use mathlib.Core.Path.{sym, ◌∙◌}
-use borrow.Author.Rules.{rules}
 use Rattle.transactions.specs.Flags.{flagged}
 use Rattle.transactions.proofs.Responding.{reply_complete, reply_none, reply_some}
 use Rattle.transactions.proofs.response.reply.Goals as goal
-
 
 pub returns-then-phase-eq2 : goal.returns-then-phase-eq2
 returns-then-phase-eq2 c = let a = c.args in reply_complete a.phase a.t (flagged a.flags) c.if-phase-eq2.true

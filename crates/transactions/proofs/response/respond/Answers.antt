@@ -1,10 +1,8 @@
 -- `transactions::response::respond` meets its contract.
 -- Assumes nothing.
-use borrow.Author.Rules.{rules}
 use Rattle.transactions.specs.Flags.{flagged}
 use Rattle.transactions.proofs.Responding.{respond_none, respond_with}
 use Rattle.transactions.proofs.response.respond.Goals as goal
-
 
 pub returns-then-phase-eq0 : goal.returns-then-phase-eq0
 returns-then-phase-eq0 c = let a = c.args in respond_none a.phase a.t (flagged a.flags) a.own c.if-phase-eq0.true

@@ -1,11 +1,9 @@
 -- `transactions::response::sack_flags` meets its contract.
 -- Assumes nothing.
 use mathlib.Core.List.{[], ◌∷◌}
-use borrow.Author.Rules.{rules}
 use Rattle.transactions.specs.Answers.{sack_flags}
 use Rattle.transactions.specs.Flags.{flag_octets}
 use Rattle.transactions.proofs.response.sack_flags.Goals as goal
-
 
 pub returns : goal.returns
 unfolding sack_flags flag_octets

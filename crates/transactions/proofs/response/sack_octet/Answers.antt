@@ -1,14 +1,12 @@
 -- `transactions::response::sack_octet` meets its contract.
 -- Assumes nothing.
 -- whether a SACK has 1 for block n
-use mathlib.Core.Path.{◌≡◌, refl, sym, ap, ◌∙◌}
+use mathlib.Core.Path.{refl, sym, ◌∙◌}
 use mathlib.Core.Bool.{Bool, cond, true}
 use mathlib.Core.List.{List}
-use mathlib.Core.Logic.{⊎_elim}
-use Prim.Native.Nat.{ℕ, ◌*◌, ◌-◌, ◌≤◌}
+use Prim.Native.Nat.{ℕ, ◌*◌}
 use native.Mathlib.Omega.{arith}
 use lib.Dec.{leb}
-use borrow.Author.Rules.{rules}
 use Rattle.transactions.specs.Flags.{flagged, weights}
 use Rattle.transactions.proofs.FlagOctets.{weights-room, weights-held, weights_other}
 use Rattle.transactions.proofs.response.sack_octet.Goals as goal
@@ -16,7 +14,6 @@ use Rattle.transactions.proofs.response.sack_octet.Goals.{then-is_one, else-is_o
 
 abbrev is_one : List ℕ → ℕ → ℕ → Bool
 is_one flags blocks n = cond (flagged flags n) true (leb blocks n)
-
 
 pub loop-k-init : goal.loop-k-init
 unfolding weights
@@ -34,6 +31,6 @@ loop-k-preserved c =
     let l = c.loop-k in
     let one = c.is_one.ensures in
     elim c.if-is_one.branch [
-      then-is_one w ↦ (omega arith, w.octet-is ∙ weights-held (is_one a.flags a.blocks) (8 * a.j) l.k l.octet (omega arith) l.invariant.1 (sym one ∙ w.if-is_one.true))
-    | else-is_one w ↦ (omega arith, w.octet-is ∙ weights_other (is_one a.flags a.blocks) (8 * a.j) l.k l.octet l.invariant.1 (sym one ∙ w.if-is_one.false))
+      | then-is_one w ↦ (omega arith, w.octet-is ∙ weights-held (is_one a.flags a.blocks) (8 * a.j) l.k l.octet (omega arith) l.invariant.1 (sym one ∙ w.if-is_one.true))
+      | else-is_one w ↦ (omega arith, w.octet-is ∙ weights_other (is_one a.flags a.blocks) (8 * a.j) l.k l.octet l.invariant.1 (sym one ∙ w.if-is_one.false))
     ]

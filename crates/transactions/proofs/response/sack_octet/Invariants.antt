@@ -1,16 +1,12 @@
 -- `transactions::response::sack_octet` meets its contract.
 -- Assumes nothing.
 -- whether a SACK has 1 for block n
-use mathlib.Core.Path.{◌≡◌, refl, sym, ap, ◌∙◌}
+use mathlib.Core.Path.{◌≡◌}
 use mathlib.Core.Bool.{Bool, cond, true}
 use mathlib.Core.List.{List}
-use mathlib.Core.Logic.{⊎_elim}
 use Prim.Native.Nat.{ℕ, ◌*◌, ◌-◌, ◌≤◌}
-use native.Mathlib.Omega.{arith}
 use lib.Dec.{leb}
-use borrow.Author.Rules.{rules}
 use Rattle.transactions.specs.Flags.{flagged, weights}
-use Rattle.transactions.proofs.FlagOctets.{weights-room, weights-held, weights_other}
 use Rattle.transactions.proofs.response.sack_octet.Given as goal
 
 abbrev pub is_one : List ℕ → ℕ → ℕ → Bool

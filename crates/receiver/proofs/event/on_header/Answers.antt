@@ -1,0 +1,21 @@
+-- `receiver::event::on_header` meets its contract.
+-- Assumes nothing.
+use mathlib.Core.Path.{sym, ◌∙◌}
+use Rattle.receiver.proofs.Arriving.{header_not_good, header_heard, header_unheard}
+use Rattle.receiver.proofs.Claims.{header_promise}
+use Rattle.receiver.proofs.event.on_header.Goals as goal
+
+pub returns-then-not-is_good : goal.returns-then-not-is_good
+returns-then-not-is_good c =
+    let a = c.args in
+    header_promise a.rx a.header.now _ (c.refused.ensures ∙ header_not_good a.rx a.header.now (sym c.is_good.ensures ∙ c.if-not-is_good.true))
+
+pub returns-in-Accepted : goal.returns-in-Accepted
+returns-in-Accepted c =
+    let a = c.args in
+    header_promise a.rx a.header.now _ (c.heard.ensures ∙ header_heard a.rx a.header.now (sym c.is_good.ensures ∙ c.if-not-is_good.false) _ _ (sym c.in-Accepted.is ∙ c.hear.ensures))
+
+pub returns-in-Refused : goal.returns-in-Refused
+returns-in-Refused c =
+    let a = c.args in
+    header_promise a.rx a.header.now _ (c.refused-in-Refused.ensures ∙ header_unheard a.rx a.header.now (sym c.is_good.ensures ∙ c.if-not-is_good.false) _ (sym c.in-Refused.is ∙ c.hear.ensures))

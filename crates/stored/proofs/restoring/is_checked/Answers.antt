@@ -1,0 +1,22 @@
+-- `stored::restoring::is_checked` meets its contract.
+-- Assumes nothing.
+use mathlib.Core.Path.{sym, ◌∙◌}
+use native.Mathlib.Omega.{arith}
+use borrow.Author.Tests.{eq-eqb, ne_eqb}
+use lib.Seq.{length-take-le}
+use Rattle.stored.specs.Parts.{message_checked}
+use Rattle.stored.proofs.RestoredBack.{fits}
+use Rattle.stored.proofs.restoring.is_checked.Goals as goal
+
+pub returns-then-rx-ne2 : goal.returns-then-rx-ne2
+unfolding message_checked
+returns-then-rx-ne2 c = rw (ne_eqb _ 2 c.if-rx-ne2.true)
+
+pub slice_bounds-message_good-end : goal.slice_bounds-message_good-end
+slice_bounds-message_good-end c =
+    let st = c in
+    sym (length-take-le _ _ (omega (arith, st.requires.1, (fits st.args.rx st.requires.0).1)))
+
+pub returns : goal.returns
+unfolding message_checked
+returns c = c.message_good.ensures ∙ rw (eq-eqb _ 2 c.if-rx-ne2.false)
