@@ -277,6 +277,7 @@ def answers(folder, key, it, opened):
                 if old in names.needs:
                     at = names.asked[old]
                     turned = names.term(at, body)
+                    turned = re.sub(r"sym \(length-map [^()]* _\) ∙ (?=c\.well_formed)", "", turned)
                     plain = r"not-(?:true|false) (?:_|\([^()]*\)|[\w.'-]+) ([\w']+\.if-not-[\w-]+\.(?:true|false))"
                     turned = re.sub(r"\(" + plain + r"\)", r"\1", turned)
                     turned = re.sub(plain, r"\1", turned)
