@@ -119,7 +119,9 @@ fn list_all<R: Read, W: Write>(from: &mut R, to: &mut W, listing: Listing, own: 
     let mut turns = u64::MAX;
     while 0 < turns {
         turns -= 1;
-        let t = answer(to, listing, now, &mut store, &mut input, size, last, &mut text);
+        let t = answer(
+            to, listing, now, &mut store, &mut input, size, last, &mut text,
+        );
         if !t.written {
             return stopped(read, written, false);
         }

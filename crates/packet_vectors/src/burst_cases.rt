@@ -33,7 +33,15 @@ fn not_written<W: Write>(out: &mut W, t: Tally, text: &[u8], colour: u8, datatyp
     ensures { result.cases ≡ (t.cases + 1) % 2 ^ 32 }
 {
     let number = burst::write(colour, datatype, info(), Sync::Base).number;
-    report::number(out, t, b"writing a burst, ", text, 2, report::wide(number), 16)
+    report::number(
+        out,
+        t,
+        b"writing a burst, ",
+        text,
+        2,
+        report::wide(number),
+        16,
+    )
 }
 
 fn read<W: Write>(out: &mut W, t: Tally, text: &[u8], octets: &[u8]) -> Tally
@@ -122,7 +130,14 @@ fn written_datagram<W: Write>(out: &mut W, t: Tally) -> Tally
     ensures { result.cases ≡ (t.cases + 1) % 2 ^ 32 }
 {
     let octets = datagrams::write(labels(), 1, 6, info(), Sync::Base).octets;
-    report::octets(out, t, b"writing a datagram", b"", &octets, &datagram_octets())
+    report::octets(
+        out,
+        t,
+        b"writing a datagram",
+        b"",
+        &octets,
+        &datagram_octets(),
+    )
 }
 
 // What it reads as, and the counter of the next one.
@@ -131,7 +146,14 @@ fn read_datagram<W: Write>(out: &mut W, mut t: Tally) -> Tally
 {
     let found = datagrams::read(&datagram_octets());
     let got = found.info;
-    t = report::octets(out, t, b"reading this datagram, ", b"information", &got, &info());
+    t = report::octets(
+        out,
+        t,
+        b"reading this datagram, ",
+        b"information",
+        &got,
+        &info(),
+    );
     t = report::number(
         out,
         t,

@@ -168,7 +168,14 @@ fn read_block<W: Write>(out: &mut W, t: Tally, text: &[u8], octets: &[u8], expec
     )
 }
 
-fn write_block<W: Write>(out: &mut W, t: Tally, text: &[u8], serial: u8, octets: &[u8], expected: u32) -> Tally
+fn write_block<W: Write>(
+    out: &mut W,
+    t: Tally,
+    text: &[u8],
+    serial: u8,
+    octets: &[u8],
+    expected: u32,
+) -> Tally
     ensures { result.cases ≡ (t.cases + 1) % 2 ^ 32 }
 {
     report::number(
@@ -251,7 +258,14 @@ fn sack_block<W: Write>(out: &mut W, t: Tally) -> Tally
     )
 }
 
-fn heard<W: Write>(out: &mut W, t: Tally, text: &[u8], header: &[u8], data: &[u8], expected: u32) -> Tally
+fn heard<W: Write>(
+    out: &mut W,
+    t: Tally,
+    text: &[u8],
+    header: &[u8],
+    data: &[u8],
+    expected: u32,
+) -> Tally
     ensures { result.cases ≡ (t.cases + 1) % 2 ^ 32 }
 {
     report::number(

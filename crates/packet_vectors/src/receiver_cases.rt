@@ -50,7 +50,14 @@ fn looped(store: &mut [u8]) -> u32 {
 }
 
 // The octets that stand in front in a store.
-fn front<W: Write>(out: &mut W, t: Tally, subject: &[u8], text: &[u8], store: &[u8], expected: &[u8]) -> Tally
+fn front<W: Write>(
+    out: &mut W,
+    t: Tally,
+    subject: &[u8],
+    text: &[u8],
+    store: &[u8],
+    expected: &[u8],
+) -> Tally
     ensures { result.cases ≡ (t.cases + 1) % 2 ^ 32 }
 {
     let n = expected.len();

@@ -1,0 +1,8 @@
+-- `packet_vectors::cases` meets its contract.
+-- Assumes nothing.
+use native.Mathlib.Omega.{arith}
+use Rattle.packet_vectors.proofs.Examples.{examples}
+use Rattle.packet_vectors.proofs.cases.Goals as goal
+
+pub returns : goal.returns
+returns g c = (omega (arith, c.cases-t.ensures, c.cases-t-2.ensures, c.cases.ensures), examples)

@@ -1,0 +1,14 @@
+-- `replay::report_all` meets its contract: after each turn what was written, and then the text of the rest and of what follows, is the whole
+-- text.
+-- Assumes nothing.
+use Rattle.std.proofs.Common.{◌≡◌, ◌≤◌, length, take}
+use Rattle.replay.proofs.Turning.{Run}
+use Rattle.replay.proofs.report_all.Given as goal
+
+abbrev pub invariant-loop-turns : goal.invariant-loop-turns
+invariant-loop-turns g l =
+    (length l.store ≡ 630) × (length l.input ≡ 65538) × (length l.text ≡ 65536) × (l.size ≤ 65538) × Run l.own l.read l.written l.last l.now l.store (take l.size l.input)
+
+abbrev pub decreases-loop-turns : goal.decreases-loop-turns
+decreases-loop-turns g l =
+    l.turns
