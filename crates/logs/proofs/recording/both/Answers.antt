@@ -7,9 +7,7 @@ use native.Mathlib.Omega.{arith}
 use lib.ListN.{replicate}
 use Rattle.foundation.specs.Octets.{put}
 use Rattle.foundation.proofs.Copying.{put_both}
-use borrow.Author.Rules.{rules}
 use Rattle.logs.proofs.recording.both.Goals as goal
-
 
 pub returns : goal.returns
 returns c =

@@ -1,9 +1,7 @@
 -- `logs::recording::put` meets its contract.
 -- Assumes nothing.
 use Rattle.logs.proofs.Lines.{line-written}
-use borrow.Author.Rules.{rules}
 use Rattle.logs.proofs.recording.put.Goals as goal
-
 
 pub returns : goal.returns
 returns c =

@@ -1,17 +1,13 @@
 -- `logs::recording::put_answer` meets its contract.
 -- Assumes nothing.
-use mathlib.Core.Path.{sym, ap, ◌∙◌}
-use Prim.Native.Nat.{ℕ, ◌≤◌}
-use native.Mathlib.Omega.{arith}
-use lib.ListN.{length, take}
-use lib.Seq.{length-take-le}
+use mathlib.Core.Path.{ap, ◌∙◌}
+use Prim.Native.Nat.{ℕ}
+use lib.ListN.{take}
 use Rattle.receiver.specs.Events.{said}
 use Rattle.logs.specs.Log.{code_of, contents_of, line_octets, line_in}
 use Rattle.logs.proofs.Lines.{said-line}
 use Rattle.foundation.proofs.Copying.{take_shorter}
-use borrow.Author.Rules.{rules}
 use Rattle.logs.proofs.recording.put_answer.Goals as goal
-
 
 pub returns-in-Refused : goal.returns-in-Refused
 unfolding said

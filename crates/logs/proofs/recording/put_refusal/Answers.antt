@@ -1,9 +1,7 @@
 -- `logs::recording::put_refusal` meets its contract.
 -- Assumes nothing.
 use Rattle.logs.specs.Log.{code_of, contents_of, line_in}
-use borrow.Author.Rules.{rules}
 use Rattle.logs.proofs.recording.put_refusal.Goals as goal
-
 
 pub returns : goal.returns
 unfolding line_in code_of contents_of

@@ -3,15 +3,12 @@
 use mathlib.Core.Path.{◌≡◌, sym, ap, ◌∙◌}
 use mathlib.Core.List.{List, append-nil}
 use Prim.Native.Nat.{ℕ}
-use native.Mathlib.Omega.{arith}
-use lib.ListN.{length, take, length-map}
-use lib.Seq.{length-take-le, take_at}
+use lib.ListN.{length, take}
+use lib.Seq.{take_at}
 use Rattle.transactions.specs.Answers.{Said}
 use Rattle.logs.specs.Log.{answer, code_of, contents_of, line_octets, line_in}
 use Rattle.logs.proofs.Lines.{said-refused, said-header, said_both}
-use borrow.Author.Rules.{rules}
 use Rattle.logs.proofs.recording.put_response.Goals as goal
-
 
 pub returns-then-number-ne0 : goal.returns-then-number-ne0
 returns-then-number-ne0 c = c.put_refusal.ensures

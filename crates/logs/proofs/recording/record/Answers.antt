@@ -1,13 +1,10 @@
 -- `logs::recording::record` meets its contract.
 -- Assumes nothing.
 use mathlib.Core.Path.{sym, ap, ◌∙◌}
-use borrow.Author.Tests.{not-true, not-false}
 use Rattle.receiver_state.specs.declared.Receiver.{Receiver}
 use Rattle.logs.specs.Log.{record_of}
 use Rattle.logs.proofs.OneRecord.{bad-receiver, bad-store, bad-line, taken_tells}
-use borrow.Author.Rules.{rules}
 use Rattle.logs.proofs.recording.record.Goals as goal
-
 
 pub returns-then-not-is_good : goal.returns-then-not-is_good
 returns-then-not-is_good c = let a = c.args in

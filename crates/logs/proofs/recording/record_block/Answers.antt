@@ -7,9 +7,7 @@ use Rattle.receiver.specs.Events.{said}
 use Rattle.receiver.specs.declared.event.Step.{Step}
 use Rattle.history.specs.Run.{after_event, answer_to}
 use Rattle.logs.specs.Log.{answer, line_in, line_of, after_record}
-use borrow.Author.Rules.{rules}
 use Rattle.logs.proofs.recording.record_block.Goals as goal
-
 
 pub returns : goal.returns
 unfolding after_record after_event line_of answer_to

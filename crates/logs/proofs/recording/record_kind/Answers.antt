@@ -1,7 +1,7 @@
 -- `logs::recording::record_kind` meets its contract.
 -- Assumes nothing.
 use mathlib.Core.Path.{◌≡◌, refl, ap, ◌∙◌}
-use mathlib.Core.Logic.{⊎_elim, ◌≢◌}
+use mathlib.Core.Logic.{◌≢◌}
 use Prim.Native.Nat.{◌+◌}
 use lib.ListN.{length}
 use Rattle.messages.specs.declared.response.ResponseOctets.{ResponseOctets}
@@ -10,10 +10,8 @@ use Rattle.receiver_state.specs.Receiver.{store_size}
 use Rattle.history.specs.Run.{after_event, answer_to}
 use Rattle.logs.specs.Log.{answer, line_in, line_of, after_record}
 use Rattle.logs.proofs.OneRecord.{header-kind, block-kind, end_kind, restart-kind, no_kind}
-use borrow.Author.Rules.{rules}
 use Rattle.logs.proofs.recording.record_kind.Goals as goal
-use Rattle.logs.proofs.recording.record_kind.Goals.{then-kind-eq2, else-kind-eq2, then-kind-eq3, else-kind-eq3}
-
+use Rattle.logs.proofs.recording.record_kind.Goals.{then-kind-eq2+else-n-eq0, else-kind-eq2, then-kind-eq3+else-n, else-kind-eq3}
 
 pub returns-then-kind-eq0 : goal.returns-then-kind-eq0
 unfolding after_record after_event
@@ -38,7 +36,7 @@ pub returns-then-n : goal.returns-then-n
 returns-then-n c = let a = c.args in
     let header = c.if-kind-eq0.false in
     let block = c.if-kind-eq1.false in
-    let end : a.kind ≡ 2 → length a.octets.now ≢ 0 = λ e z. elim c.if-kind-eq2.branch [ then-kind-eq2 w ↦ w.if-n-eq0.false z | else-kind-eq2 w ↦ w.if-kind-eq2.false e ] in
+    let end : a.kind ≡ 2 → length a.octets.now ≢ 0 = λ e z. elim c.if-kind-eq2.branch [ then-kind-eq2+else-n-eq0 w ↦ w.if-n-eq0.false z | else-kind-eq2 w ↦ w.if-kind-eq2.false e ] in
     rw (restart-kind a.kind a.octets.now header block end c.if-kind-eq3.true c.if-n.true)
     c.record_restart.ensures
 
@@ -47,6 +45,6 @@ unfolding after_record line_of
 returns c = let a = c.args in
     let header = c.if-kind-eq0.false in
     let block = c.if-kind-eq1.false in
-    let end : a.kind ≡ 2 → length a.octets.now ≢ 0 = λ e z. elim c.if-kind-eq2.branch [ then-kind-eq2 w ↦ w.if-n-eq0.false z | else-kind-eq2 w ↦ w.if-kind-eq2.false e ] in
-    let other : a.kind ≡ 3 → length a.octets.now ≢ 2 + store_size = λ e z. elim c.if-kind-eq3.branch [ then-kind-eq3 w ↦ w.if-n.false z | else-kind-eq3 w ↦ w.if-kind-eq3.false e ] in
+    let end : a.kind ≡ 2 → length a.octets.now ≢ 0 = λ e z. elim c.if-kind-eq2.branch [ then-kind-eq2+else-n-eq0 w ↦ w.if-n-eq0.false z | else-kind-eq2 w ↦ w.if-kind-eq2.false e ] in
+    let other : a.kind ≡ 3 → length a.octets.now ≢ 2 + store_size = λ e z. elim c.if-kind-eq3.branch [ then-kind-eq3+else-n w ↦ w.if-n.false z | else-kind-eq3 w ↦ w.if-kind-eq3.false e ] in
     rw (no_kind a.kind a.octets.now header block end other) (refl, refl, c.put_refusal.ensures)

@@ -11,9 +11,7 @@ use Rattle.stored.specs.declared.restoring.Restored.{Restored}
 use Rattle.history.specs.Run.{saved_form}
 use Rattle.logs.specs.Log.{code_of, contents_of, line_octets, line_in, line_of}
 use Rattle.logs.proofs.OneRecord.{fresh_of, form_of, restart-leaves}
-use borrow.Author.Rules.{rules}
 use Rattle.logs.proofs.recording.record_restart.Goals as goal
-
 
 pub returns : goal.returns
 unfolding saved_form line_of line_in code_of contents_of
