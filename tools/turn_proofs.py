@@ -54,6 +54,7 @@ class Names:
     def step(self, at, old):
         """The new name of the step `old`, at the place `at` or above it."""
         old = re.sub(r"_lem$", "", {"type_size": "size_of"}.get(old, old))
+        old = old.strip("«»")
         m = re.fullmatch(r"fits-?(\d+)", old)
         if m:
             old = "fits" if m.group(1) == "2" else f"fits{int(m.group(1)) - 1}"
@@ -116,7 +117,7 @@ class Names:
             else:
                 break
         text = text.replace(".type-inv", ".type_inv").replace(".well-formed", ".well_formed")
-        text = re.sub(r"(?<![\w.'-])([\w']+)((?:\.before)*)\.([\w-]+)((?:\.[\w-]+)*)", turn, text)
+        text = re.sub(r"(?<![\w.'-])([\w']+)((?:\.before)*)\.([\w«»-]+)((?:\.[\w-]+)*)", turn, text)
         text = re.sub(r"(c\.[\w-]+\.[\w-]+-own\.keys\d+)", r"(opened \1)", text)
         return self.fields(text)
 
@@ -139,6 +140,14 @@ class Names:
             return f"c.{m.group(1)}.ensures.{names[0]}" if names and len(names) == 1 else m.group()
 
         text = re.sub(r"(?<![\w.'-])c\.([\w-]+)\.ensures(?![\w.'-])", alone, text)
+
+        def shaped(m):
+            step = m.group(2) if m.group(1) == "c." else local.get(m.group(2))
+            names = self.it["params"].get(self.callee.get(step, ""), [])
+            n = m.group(3).count(".1")
+            return f"{m.group(1)}{m.group(2)}.auto.{names[n]}" if n < len(names) else m.group()
+
+        text = re.sub(r"(?<![\w.'-])(c\.|)([\w'-]+)\.auto((?:\.1)*\.0)(?![\w.])", shaped, text)
 
         def local_clause(m):
             names = self.clauses.get(local.get(m.group(1), ""))

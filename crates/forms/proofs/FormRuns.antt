@@ -140,7 +140,7 @@ module _ (own : RadioAddress) where
 
   runs : (form : List ℕ) (p : History) (cs : List Stamped) → PossibleStamped cs → Keeps form p → told_on form cs ≡ told_from own p cs
   unfolding told_on told_from
-  runs form p [] o m = refl
+  runs _ p [] o m = refl
   runs form p (c ∷ cs) (o, room, rest) m =
       let s = steps form p m c.s0 c.s1 c.line room c.asked o in
       ap₂ ◌∷◌ s.told (runs (form_after form c.s0 c.s1 c.line c.asked) (after_asked own p c.asked) cs rest s.left)

@@ -15,7 +15,7 @@ use Rattle.foundation.proofs.Tests.{either}
 use Rattle.foundation.proofs.Order.{all-at}
 use Rattle.receiver_state.specs.Receiver.{store_size, receiver_good}
 use Rattle.history.specs.History.{header, block, ended, History, nothing, after, history_from}
-use Rattle.history.specs.Run.{Action, event, restart, State, left, events}
+use Rattle.history.specs.Run.{after_event, after_restart, Action, event, restart, State, left, events}
 use Rattle.history.specs.Claims.{Octets, Possible, fresh_state}
 use Rattle.history.proofs.Demand3.{Given, event-step, runs}
 use Rattle.history.proofs.Follows.{Follows, fresh_follows, good}
@@ -91,8 +91,8 @@ possible_append (restart s0 s1 store ∷ xs) ys p q = (p.0, possible_append xs y
 left-append : (s : State) (xs ys : List Action) → left s (xs ++ ys) ≡ left (left s xs) ys
 unfolding left
 left-append s [] ys = refl
-left-append s (event e ∷ xs) ys = left-append _ xs ys
-left-append s (restart s0 s1 store ∷ xs) ys = left-append _ xs ys
+left-append s (event e ∷ xs) ys = left-append (after_event s e) xs ys
+left-append s (restart s0 s1 store ∷ xs) ys = left-append (after_restart s s0 s1 store) xs ys
 
 -- ---- records against the history rule
 

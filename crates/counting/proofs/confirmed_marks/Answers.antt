@@ -3,9 +3,7 @@
 use Rattle.receiver.specs.Events as event
 use Rattle.reception.specs.Reception.{said}
 use Rattle.counting.specs.Counts.{hands_on, is_message, refuses, is_refused}
-use Rattle.std.proofs.Common.{rules}
 use Rattle.counting.proofs.confirmed_marks.Goals as goal
-
 
 pub returns-in-Refused : goal.returns-in-Refused
 unfolding is_message is_refused hands_on refuses said event.said

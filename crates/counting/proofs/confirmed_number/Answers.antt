@@ -4,9 +4,7 @@ use Rattle.transactions.specs.Answers.{number_of}
 use Rattle.receiver.specs.Events as event
 use Rattle.reception.specs.Reception.{said}
 use Rattle.counting.specs.Counts.{answer_number}
-use Rattle.std.proofs.Common.{rules}
 use Rattle.counting.proofs.confirmed_number.Goals as goal
-
 
 pub returns-in-Refused : goal.returns-in-Refused
 unfolding answer_number said event.said number_of

@@ -1,10 +1,9 @@
 -- `counting::counted` meets its contract.
 -- Assumes nothing.
-use Rattle.std.proofs.Common.{[], ◌∷◌, rules}
+use Rattle.std.proofs.Common.{[], ◌∷◌}
 use Rattle.counting.specs.Counts.{counted}
 use Rattle.counting.proofs.Counting.{counts_on}
 use Rattle.counting.proofs.counted.Goals as goal
-
 
 pub returns : goal.returns
 unfolding counted

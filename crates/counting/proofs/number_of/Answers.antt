@@ -3,9 +3,7 @@
 use Rattle.transactions.specs.Answers.{number_of}
 use Rattle.reception.specs.Reception.{said}
 use Rattle.counting.specs.Counts.{answer_number}
-use Rattle.std.proofs.Common.{rules}
 use Rattle.counting.proofs.number_of.Goals as goal
-
 
 pub returns-in-Refused : goal.returns-in-Refused
 unfolding answer_number said number_of

@@ -1,0 +1,12 @@
+-- `captures::answer` meets its contract.
+-- Assumes nothing.
+use Rattle.captures.proofs.Runs.{answered-step}
+use borrow.Author.Rules.{rules}
+use Rattle.captures.proofs.answer.Goals as goal
+
+
+pub returns : goal.returns
+returns c =
+    let a = c.args in
+    let o = c.on_datagram-step.ensures in
+    answered-step a.listing a.g a.store.now a.datagram.now a.text.now a.at _ _ _ _ _ o.0 o.1 c.counted-more.ensures.0 c.put_line-end.ensures

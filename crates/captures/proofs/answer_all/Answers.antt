@@ -1,0 +1,31 @@
+-- `captures::answer_all` meets its contract.
+-- Assumes nothing.
+use mathlib.Core.Path.{◌≡◌, sym, ap, ◌∙◌}
+use Prim.Native.Nat.{◌+◌, ◌*◌, ◌-◌, ◌<◌, ◌≤◌, min}
+use native.Mathlib.Omega.{arith}
+use borrow.Author.Rules.{rules}
+use lib.ListN.{length, take, drop}
+use Rattle.captures.specs.Lines.{line_room}
+use Rattle.captures.specs.Captures.{datagram_size}
+use Rattle.captures.proofs.Runs.{Midway, datagram-at, midway_start, midway_length, midway_room, midway_more, midway_end}
+use Rattle.captures.proofs.answer_all.Goals as goal
+
+
+pub loop-i-init : goal.loop-i-init
+loop-i-init c = let a = c.args in midway_start a.listing a.g a.store.now a.octets.now a.text.now a.count c.requires.0
+
+pub loop-i-preserved : goal.loop-i-preserved
+loop-i-preserved c =
+    let a = c.args in
+    let l = c.loop-i in
+    let w = c.answer-step in
+    let size = length a.octets.now in
+    let k : 53 * l.i + c.shorter.result - 53 * l.i ≡ min datagram_size (size - 53 * l.i) = omega (arith, c.shorter.ensures) in
+    midway_more a.listing a.g a.store.now a.octets.now a.text.now a.count l.i l.now l.store l.end l.text l.invariant
+    _ c.loop-i-test.true (datagram-at a.octets.now l.i _ k) c.requires.2 _ _ _ _ w.ensures.0 w.ensures.1 (w.auto.store ∙ l.invariant.room)
+
+pub returns : goal.returns
+returns c =
+    let a = c.args in
+    let l = c.loop-i in
+    midway_end a.listing a.g a.store.now a.octets.now a.text.now a.count l.i l.now l.store l.end l.text l.invariant (omega arith)

@@ -1,0 +1,16 @@
+-- `captures::put_number` meets its contract.
+-- Assumes nothing.
+use native.Mathlib.Omega.{arith}
+use Rattle.texts.proofs.Writing.{done, more}
+use Rattle.captures.proofs.Lines.{number-written}
+use borrow.Author.Rules.{rules}
+use Rattle.captures.proofs.put_number.Goals as goal
+
+
+pub returns : goal.returns
+returns c =
+    let a = c.args in
+    let f = c.ranges in
+    number-written a.text.now a.at _ _ a.index a.number (omega (arith, f.index)) (omega (arith, f.number)) c.requires
+    (more _ _ _ _ _ _ _ _ c.put_decimal-space.ensures (more _ _ _ _ _ _ _ _ c.put_word-second.ensures (more _ _ _ _ _ _ _ _ c.put_decimal-end.ensures
+    (more _ _ _ _ _ _ _ _ c.put_word.ensures (done _ _)))))

@@ -1,0 +1,10 @@
+-- `forms::on_block` meets its contract.
+-- Assumes nothing.
+use Rattle.forms.proofs.FormEvents.{block_acts}
+use borrow.Author.Rules.{rules}
+use Rattle.forms.proofs.on_block.Goals as goal
+
+
+pub returns : goal.returns
+returns c =
+    block_acts _ _ _ _ _ _ _ _ _ c.size_number.ensures c.on_record.ensures

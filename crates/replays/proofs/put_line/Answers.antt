@@ -1,0 +1,12 @@
+-- `replays::put_line` meets its contract.
+-- Assumes nothing.
+use native.Mathlib.Omega.{arith}
+use Rattle.replays.proofs.Text.{octets-written}
+use borrow.Author.Rules.{rules}
+use Rattle.replays.proofs.put_line.Goals as goal
+
+
+pub returns : goal.returns
+returns c =
+    let a = c.args in
+    octets-written a.text.now a.at _ _ a.line.now c.shorter-size.result c.shorter-size.ensures c.put_contents.ensures
