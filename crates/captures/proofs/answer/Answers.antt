@@ -1,9 +1,7 @@
 -- `captures::answer` meets its contract.
 -- Assumes nothing.
 use Rattle.captures.proofs.Runs.{answered-step}
-use borrow.Author.Rules.{rules}
 use Rattle.captures.proofs.answer.Goals as goal
-
 
 pub returns : goal.returns
 returns c =

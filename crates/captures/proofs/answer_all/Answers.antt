@@ -1,15 +1,12 @@
 -- `captures::answer_all` meets its contract.
 -- Assumes nothing.
-use mathlib.Core.Path.{◌≡◌, sym, ap, ◌∙◌}
-use Prim.Native.Nat.{◌+◌, ◌*◌, ◌-◌, ◌<◌, ◌≤◌, min}
+use mathlib.Core.Path.{◌≡◌, ◌∙◌}
+use Prim.Native.Nat.{◌+◌, ◌*◌, ◌-◌, min}
 use native.Mathlib.Omega.{arith}
-use borrow.Author.Rules.{rules}
-use lib.ListN.{length, take, drop}
-use Rattle.captures.specs.Lines.{line_room}
+use lib.ListN.{length}
 use Rattle.captures.specs.Captures.{datagram_size}
-use Rattle.captures.proofs.Runs.{Midway, datagram-at, midway_start, midway_length, midway_room, midway_more, midway_end}
+use Rattle.captures.proofs.Runs.{datagram-at, midway_start, midway_more, midway_end}
 use Rattle.captures.proofs.answer_all.Goals as goal
-
 
 pub loop-i-init : goal.loop-i-init
 loop-i-init c = let a = c.args in midway_start a.listing a.g a.store.now a.octets.now a.text.now a.count c.requires.0

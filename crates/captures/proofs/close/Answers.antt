@@ -1,9 +1,7 @@
 -- `captures::close` meets its contract.
 -- Assumes nothing.
 use Rattle.captures.proofs.Lines.{numbers_closed, deliveries_closed}
-use borrow.Author.Rules.{rules}
 use Rattle.captures.proofs.close.Goals as goal
-
 
 pub returns-in-Numbers : goal.returns-in-Numbers
 returns-in-Numbers c = numbers_closed c.args.listing c.args.c c.args.text.now _ _ c.in-Numbers.is c.close_numbers.ensures

@@ -9,9 +9,7 @@ use Rattle.foundation.specs.Octets.{put}
 use Rattle.texts.specs.Texts.{end_at}
 use Rattle.texts.proofs.Writing.{wrote_front}
 use Rattle.captures.proofs.Lines.{length_end}
-use borrow.Author.Rules.{rules}
 use Rattle.captures.proofs.close_numbers.Goals as goal
-
 
 pub slice_bounds-line-end : goal.slice_bounds-line-end
 slice_bounds-line-end c = omega (arith, c.put_end-end.ensures.0, length_end c.args.c (omega arith) (omega arith) (omega arith))

@@ -1,10 +1,7 @@
 -- `captures::line_room` meets its contract.
 -- Assumes nothing.
-use mathlib.Core.Path.{sym}
 use Rattle.captures.specs.Lines.{line_room}
-use borrow.Author.Rules.{rules}
 use Rattle.captures.proofs.line_room.Goals as goal
-
 
 pub returns-in-Numbers : goal.returns-in-Numbers
 unfolding line_room

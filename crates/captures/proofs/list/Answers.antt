@@ -1,16 +1,11 @@
 -- `captures::list` meets its contract.
 -- Assumes nothing.
-use mathlib.Core.Path.{◌≡◌, sym, ap, subst, ◌∙◌}
-use mathlib.Core.List.{List}
-use Prim.Native.Nat.{ℕ, ◌*◌, min, ◌≤◌, ◌<◌}
+use mathlib.Core.Path.{sym, subst}
 use native.Mathlib.Omega.{arith}
-use lib.ListN.{length}
 use Rattle.captures.specs.declared.Listed.{Listed}
 use Rattle.captures.specs.Captures.{datagrams_answered, octets_of}
-use Rattle.captures.proofs.Lists.{Lists, count_room, count_inside, other_store, no_line-room, lists}
-use borrow.Author.Rules.{rules}
+use Rattle.captures.proofs.Lists.{Lists, other_store, no_line-room, lists}
 use Rattle.captures.proofs.list.Goals as goal
-
 
 pub returns-then-store-ne-STORE : goal.returns-then-store-ne-STORE
 returns-then-store-ne-STORE c =

@@ -3,9 +3,7 @@
 use native.Mathlib.Omega.{arith}
 use Rattle.texts.proofs.Writing.{done, more}
 use Rattle.captures.proofs.Lines.{bad-written}
-use borrow.Author.Rules.{rules}
 use Rattle.captures.proofs.put_bad.Goals as goal
-
 
 pub returns : goal.returns
 returns c =

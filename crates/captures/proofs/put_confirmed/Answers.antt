@@ -1,19 +1,15 @@
 -- `captures::put_confirmed` meets its contract.
 -- Assumes nothing.
-use mathlib.Core.Path.{sym, ap, subst, ◌∙◌}
+use mathlib.Core.Path.{ap, subst, ◌∙◌}
 use mathlib.Core.List.{List}
-use native.Mathlib.Omega.{arith}
-use Prim.Native.Nat.{ℕ, min}
-use lib.ListN.{take, length}
-use lib.Seq.{length-take-le}
+use Prim.Native.Nat.{ℕ}
+use lib.ListN.{take}
 use Rattle.foundation.proofs.Copying.{take_shorter}
 use Rattle.texts.specs.Parts.{AtMost}
 use Rattle.receiver.specs.Events.{said}
 use Rattle.captures.specs.Lines.{delivery_line, message_line}
 use Rattle.captures.proofs.Lines.{no_line, confirmed-line}
-use borrow.Author.Rules.{rules}
 use Rattle.captures.proofs.put_confirmed.Goals as goal
-
 
 pub returns-in-Refused : goal.returns-in-Refused
 unfolding delivery_line said

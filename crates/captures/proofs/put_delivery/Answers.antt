@@ -1,12 +1,9 @@
 -- `captures::put_delivery` meets its contract.
 -- Assumes nothing.
-use mathlib.Core.Path.{sym, ap, subst, ◌∙◌}
 use Rattle.reception.specs.Reception.{said}
 use Rattle.captures.specs.Lines.{delivery_line}
 use Rattle.captures.proofs.Lines.{no_line, reception_line}
-use borrow.Author.Rules.{rules}
 use Rattle.captures.proofs.put_delivery.Goals as goal
-
 
 pub returns-in-Refused : goal.returns-in-Refused
 unfolding delivery_line said

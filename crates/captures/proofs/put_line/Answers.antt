@@ -1,9 +1,7 @@
 -- `captures::put_line` meets its contract.
 -- Assumes nothing.
 use Rattle.captures.proofs.Lines.{numbers-room, deliveries_room, number-listed, delivery_listed}
-use borrow.Author.Rules.{rules}
 use Rattle.captures.proofs.put_line.Goals as goal
-
 
 pub put_number-requires : goal.put_number-requires
 put_number-requires c = numbers-room _ _ _ c.in-Numbers.is c.requires.0

@@ -3,9 +3,7 @@
 use native.Mathlib.Omega.{arith}
 use Rattle.texts.proofs.Writing.{done, more}
 use Rattle.captures.proofs.Lines.{message-written, room-behind}
-use borrow.Author.Rules.{rules}
 use Rattle.captures.proofs.put_message.Goals as goal
-
 
 pub put_size-second-requires : goal.put_size-second-requires
 put_size-second-requires c =

@@ -7,9 +7,7 @@ use Rattle.logs.specs.Log.{record_of, state_of}
 use Rattle.logs.specs.declared.recording.Recorded.{Recorded}
 use Rattle.logs.proofs.OneRecord.{taken_tells}
 use Rattle.forms.proofs.FormEvents.{happens, acted_refused, acted_taken, saved_after, length-blank}
-use borrow.Author.Rules.{rules}
 use Rattle.forms.proofs.act_on.Goals as goal
-
 
 pub returns-then-answer-eq0 : goal.returns-then-answer-eq0
 returns-then-answer-eq0 c =

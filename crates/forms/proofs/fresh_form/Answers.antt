@@ -3,9 +3,7 @@
 use mathlib.Core.Path.{◌∙◌}
 use Rattle.forms.proofs.FormRuns.{form_claim}
 use Rattle.forms.proofs.FreshForms.{fresh_other_size, fresh_refused, fresh_made}
-use borrow.Author.Rules.{rules}
 use Rattle.forms.proofs.fresh_form.Goals as goal
-
 
 pub returns-then-form-ne-FORM : goal.returns-then-form-ne-FORM
 returns-then-form-ne-FORM c = let a = c.args in

@@ -1,9 +1,7 @@
 -- `forms::on_block` meets its contract.
 -- Assumes nothing.
 use Rattle.forms.proofs.FormEvents.{block_acts}
-use borrow.Author.Rules.{rules}
 use Rattle.forms.proofs.on_block.Goals as goal
-
 
 pub returns : goal.returns
 returns c =

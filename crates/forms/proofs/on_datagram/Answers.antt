@@ -2,9 +2,7 @@
 -- Assumes nothing.
 use Rattle.forms.specs.Forms.{a_datagram}
 use Rattle.forms.proofs.FormEvents.{brought_number, brought_record, brought_event}
-use borrow.Author.Rules.{rules}
 use Rattle.forms.proofs.on_datagram.Goals as goal
-
 
 pub on_record-requires : goal.on_record-requires
 on_record-requires c =

@@ -1,9 +1,7 @@
 -- `forms::on_header` meets its contract.
 -- Assumes nothing.
 use Rattle.forms.proofs.FormEvents.{header_acts}
-use borrow.Author.Rules.{rules}
 use Rattle.forms.proofs.on_header.Goals as goal
-
 
 pub returns : goal.returns
 returns c =

@@ -4,9 +4,7 @@ use mathlib.Core.Path.{sym, ◌∙◌}
 use Rattle.logs.specs.Log.{record_of}
 use Rattle.forms.proofs.FormStates.{number_is, size_is, state_is, state_savable, state_flags}
 use Rattle.forms.proofs.FormEvents.{other_line, other_form, other_asked, form_refused, number-refused, answer-left}
-use borrow.Author.Rules.{rules}
 use Rattle.forms.proofs.on_record.Goals as goal
-
 
 pub returns-then-line-ne-LINE : goal.returns-then-line-ne-LINE
 returns-then-line-ne-LINE c = λ a e f. let g = c.args in
@@ -40,7 +38,7 @@ act_on-requires c =
     let g = c.args in
     let t = c.take_form-taken in (
       state_savable g.form.now t.result _ t.ensures.0 t.ensures.1 c.if-taken-ne0.false,
-      state_flags g.form.now t.result _ t.ensures.0 t.ensures.1 c.if-taken-ne0.false (λ i. (?).fits),
+      state_flags g.form.now t.result _ t.ensures.0 t.ensures.1 c.if-taken-ne0.false (λ i. (c.slice_known-1.given i).fits),
       size_is g.form.now t.result _ t.ensures.0 t.ensures.1 c.if-taken-ne0.false,
       c.if-line-ne-LINE.false,
       c.requires c.if-number-ne0.false,

@@ -1,9 +1,7 @@
 -- `forms::record_kind` meets its contract.
 -- Assumes nothing.
 use Rattle.forms.specs.Parts.{kind_number}
-use borrow.Author.Rules.{rules}
 use Rattle.forms.proofs.record_kind.Goals as goal
-
 
 pub returns-in-Header : goal.returns-in-Header
 unfolding kind_number

@@ -1,9 +1,7 @@
 -- `forms::take_form` meets its contract.
 -- Assumes nothing.
 use Rattle.forms.proofs.FormStates.{fresh_taken}
-use borrow.Author.Rules.{rules}
 use Rattle.forms.proofs.take_form.Goals as goal
-
 
 pub returns : goal.returns
 returns c =

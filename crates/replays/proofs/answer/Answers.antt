@@ -11,7 +11,6 @@ use Rattle.replays.proofs.Runs.{refused-step, taken_step, store_told}
 use borrow.Author.Rules.{rules}
 use Rattle.replays.proofs.answer.Goals as goal
 
-
 pub returns-then-recorded-ne0 : goal.returns-then-recorded-ne0
 returns-then-recorded-ne0 c =
     let a = c.args in

@@ -1,14 +1,10 @@
 -- `replays::answer_all` meets its contract.
 -- Assumes nothing.
-use mathlib.Core.Path.{sym, ◌∙◌}
-use Prim.Native.Nat.{◌-◌}
-use native.Mathlib.Omega.{arith}
-use lib.ListN.{length, take}
+use mathlib.Core.Path.{◌∙◌}
 use borrow.Author.Tests.{not-true, not-false}
 use Rattle.logs.specs.Log.{state_of}
-use Rattle.replays.proofs.Runs.{Midway, midway_start, midway_length, midway_room, midway_more, midway_end, midway_last}
+use Rattle.replays.proofs.Runs.{midway_start, midway_more, midway_end, midway_last}
 use Rattle.replays.proofs.answer_all.Goals as goal
-
 
 pub loop-i-init : goal.loop-i-init
 loop-i-init c = midway_start (state_of c.args.rx c.args.store.now) c.args.octets.now c.args.last c.args.most c.args.text.now c.requires.0

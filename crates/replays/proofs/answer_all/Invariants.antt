@@ -1,12 +1,8 @@
 -- `replays::answer_all` meets its contract.
 -- Assumes nothing.
-use mathlib.Core.Path.{sym, ◌∙◌}
 use Prim.Native.Nat.{◌-◌}
-use native.Mathlib.Omega.{arith}
-use lib.ListN.{length, take}
-use borrow.Author.Tests.{not-true, not-false}
 use Rattle.logs.specs.Log.{state_of}
-use Rattle.replays.proofs.Runs.{Midway, midway_start, midway_length, midway_room, midway_more, midway_end, midway_last}
+use Rattle.replays.proofs.Runs.{Midway}
 use Rattle.replays.proofs.answer_all.Given as goal
 
 abbrev pub invariant-loop-i : goal.invariant-loop-i

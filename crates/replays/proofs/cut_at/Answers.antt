@@ -1,11 +1,8 @@
 -- `replays::cut_at` meets its contract.
 -- Assumes nothing.
-use Prim.Native.Nat.{◌+◌}
 use native.Mathlib.Omega.{arith}
 use Rattle.replays.proofs.Records.{cut_short, short_early, short_late, cut-whole}
-use borrow.Author.Rules.{rules}
 use Rattle.replays.proofs.cut_at.Goals as goal
-
 
 pub returns-then-size-at-lt3 : goal.returns-then-size-at-lt3
 returns-then-size-at-lt3 c = cut_short c.args.octets.now c.args.at c.args.last c.requires (short_early c.args.octets.now c.args.at c.args.last c.requires c.if-size-at-lt3.true) _ c.cut_short.ensures

@@ -7,7 +7,6 @@ use borrow.Author.Tests.{lt-ltb, le-ltb}
 use Rattle.foundation.proofs.Order.{all_nil, all_cons, all_fails}
 use Rattle.replays.proofs.cut_short.Goals as goal
 
-
 pub returns-then-at-size : goal.returns-then-at-size
 returns-then-at-size c = rw (all_cons _ c.if-last.true (all_cons _ (lt-ltb c.args.at c.args.size c.if-at-size.true) all_nil))
 

@@ -4,9 +4,7 @@ use native.Mathlib.Omega.{arith}
 use Rattle.replays.specs.Text.{line_text}
 use Rattle.replays.specs.Parts.{code_text}
 use Rattle.replays.proofs.Text.{word_written, by_code, by_refusal, by_rest}
-use borrow.Author.Rules.{rules}
 use Rattle.replays.proofs.put_contents.Goals as goal
-
 
 pub returns-in-0 : goal.returns-in-0
 returns-in-0 c =

@@ -1,10 +1,7 @@
 -- `replays::put_line` meets its contract.
 -- Assumes nothing.
-use native.Mathlib.Omega.{arith}
 use Rattle.replays.proofs.Text.{octets-written}
-use borrow.Author.Rules.{rules}
 use Rattle.replays.proofs.put_line.Goals as goal
-
 
 pub returns : goal.returns
 returns c =

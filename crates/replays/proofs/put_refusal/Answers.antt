@@ -3,9 +3,7 @@
 use native.Mathlib.Omega.{arith}
 use Rattle.texts.proofs.Writing.{done, more}
 use Rattle.replays.proofs.Text.{refusal_written}
-use borrow.Author.Rules.{rules}
 use Rattle.replays.proofs.put_refusal.Goals as goal
-
 
 pub returns : goal.returns
 returns c =

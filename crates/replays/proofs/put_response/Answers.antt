@@ -1,13 +1,8 @@
 -- `replays::put_response` meets its contract.
 -- Assumes nothing.
-use mathlib.Core.Path.{sym}
-use native.Mathlib.Omega.{arith}
 use Rattle.texts.proofs.Writing.{done, more}
-use lib.Seq.{length-take-le}
 use Rattle.replays.proofs.Text.{response-written}
-use borrow.Author.Rules.{rules}
 use Rattle.replays.proofs.put_response.Goals as goal
-
 
 pub returns : goal.returns
 returns c =

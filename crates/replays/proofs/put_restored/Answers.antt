@@ -2,9 +2,7 @@
 -- Assumes nothing.
 use Rattle.texts.proofs.Writing.{done, more}
 use Rattle.replays.proofs.Text.{restored-written}
-use borrow.Author.Rules.{rules}
 use Rattle.replays.proofs.put_restored.Goals as goal
-
 
 pub returns : goal.returns
 returns c =

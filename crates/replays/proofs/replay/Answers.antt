@@ -4,9 +4,7 @@ use mathlib.Core.Path.{sym, subst}
 use native.Mathlib.Omega.{arith}
 use Rattle.replays.specs.declared.Replayed.{Replayed}
 use Rattle.replays.proofs.Replays.{Replays, other_store, no_line-room, replays}
-use borrow.Author.Rules.{rules}
 use Rattle.replays.proofs.replay.Goals as goal
-
 
 pub returns-then-store-ne-STORE : goal.returns-then-store-ne-STORE
 returns-then-store-ne-STORE c =
