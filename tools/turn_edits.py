@@ -1,7 +1,7 @@
 #!/usr/bin/env python3
 """Turns the must-fail edits of this repository from the text of an older Rattle to that of today's.
 
-usage: tools/turn_edits.py COMMIT NAMES.txt [CRATE..]     rewrites crates/CRATE/must-fail/*.edit and must-fail/more/*.edit in place (all crates without a name)
+usage: tools/turn_edits.py COMMIT NAMES.txt [CRATE..]     rewrites crates/CRATE/must-fail/*.edit in place (all crates without a name)
        tools/turn_edits.py --tried [CRATE..]              changes nothing, and says of each edit whether it applies to the files as they stand
 
 COMMIT has the older text of the files that the edits change, NAMES.txt lines `OLD NEW` (tools/spell_names.py --map at that commit's text).
@@ -172,7 +172,7 @@ def told(line, names):
 
 def edits(crates):
     for crate in crates:
-        for path in sorted(glob.glob(f"crates/{crate}/must-fail/*.edit")) + sorted(glob.glob(f"crates/{crate}/must-fail/more/*.edit")):
+        for path in sorted(glob.glob(f"crates/{crate}/must-fail/*.edit")):
             yield crate, path
 
 
