@@ -49,6 +49,7 @@ class Names:
                 self.clauses[p[2][1]] = k["fields"]
             if p[2][1] and p[3]:
                 self.callee[p[2][1]] = p[3]
+        self.it = it
         self.typed = {norm(s): v for row in it["typed"] for v, s in row if s}
 
     def step(self, at, old):
@@ -228,7 +229,7 @@ def invariants(folder, key, it):
     text = open(path, encoding="utf-8").read()
     head, decls = blocks(text)
     module = re.search(r"use (Rattle\.[\w.+-]+)\.Tie as tie", text)
-    said, helpers = [], []
+    said, lemmas = [], []
     loops = {norm(l[0][0]): l[0][1] for l in it["loops"]}
     for d in decls:
         m = re.match(r"tie\.(invariant|decreases)-(.+)$", d[1])
@@ -277,7 +278,7 @@ def answers(folder, key, it, opened):
     module = re.search(r"use (Rattle\.[\w.+-]+)\.Tie as tie", text).group(1)
     names = Names(it)
     given = {}
-    helpers = []
+    lemmas = []
     for d in decls:
         body = "\n".join(d[2]).rstrip()
         m = re.match(r"tie\.Need-(\S+)", d[1])
@@ -306,7 +307,7 @@ def answers(folder, key, it, opened):
                     text_of = names.term(was, text_of)
                     for n, a in enumerate(arrays_of(key), 1):
                         text_of = re.sub(rf"(\.args|\ba)\.t{n}(?![\w'-])", rf"\1.{a}", text_of)
-            helpers += text_of.split("\n")
+            lemmas += text_of.split("\n")
     out = []
     for goal in wanted:
         base = re.sub(r"-clause-\w+$", "", goal)
@@ -320,7 +321,7 @@ def answers(folder, key, it, opened):
     if any("(opened c." in l for l in out):
         head.append("use borrow.Enum.Refused.{opened}")
     with open(os.path.join(where, "Answers.antt"), "w", encoding="utf-8") as f:
-        f.write("\n".join(comment + uses(head) + [f"use {module}.Goals as goal", ""] + helpers + out).rstrip() + "\n")
+        f.write("\n".join(comment + uses(head) + [f"use {module}.Goals as goal", ""] + lemmas + out).rstrip() + "\n")
 
 
 def open_goals(text):

@@ -3,6 +3,7 @@
 #![tactic(auto)]
 
 use captures::Listing;
+use inputs::causes;
 use std::env::{Env, FillError};
 
 fn main(rt: HostRuntime) {
@@ -10,12 +11,13 @@ fn main(rt: HostRuntime) {
         let _ = eprintln!(rt; "usage: gateway < CAPTURE");
         return;
     }
-    let mut from = rt.stdin();
-    let mut to = rt.stdout();
+    let mut from = causes::begun(rt.stdin());
+    let mut to = causes::begun(rt.stdout());
     let mut own = [0u8; 3];
     let first = inputs::fill(&mut from, &mut own);
     if first.failed {
-        let _ = eprintln!(rt; "gateway: standard input can't be read");
+        let cause = causes::cause(rt.alloc(), from.error);
+        let _ = eprintln!(rt; "gateway: standard input can't be read{cause}");
         return;
     }
     let size = first.size;
@@ -24,8 +26,10 @@ fn main(rt: HostRuntime) {
         return;
     }
     if e.unread {
-        let _ = eprintln!(rt; "gateway: standard input can't be read");
+        let cause = causes::cause(rt.alloc(), from.error);
+        let _ = eprintln!(rt; "gateway: standard input can't be read{cause}");
         return;
     }
-    let _ = eprintln!(rt; "gateway: standard output can't be written");
+    let cause = causes::cause(rt.alloc(), to.error);
+    let _ = eprintln!(rt; "gateway: standard output can't be written{cause}");
 }

@@ -8,6 +8,8 @@ ghost use Rattle.inputs.specs.Inputs.{ReadBehind};
 
 use std::io::Read;
 
+pub mod causes;
+
 // How many octets there are now, and whether the input could not be read. Where it could, and there are no more, it has ended.
 #[derive(Drop)]
 pub struct Reading {

@@ -35,26 +35,26 @@ module _ (kind : ℕ) (os : List ℕ) where
   unfolding record_of
   header-kind e = rw (eq-eqb kind 0 e)
 
-  module _ (no_Header : kind ≢ 0) where
+  module _ (no_header : kind ≢ 0) where
     pub block-kind : kind ≡ 1 → record_of kind os ≡ act (event (block os))
     unfolding record_of
-    block-kind e = rw (ne_eqb kind 0 no_Header, eq-eqb kind 1 e)
+    block-kind e = rw (ne_eqb kind 0 no_header, eq-eqb kind 1 e)
 
     module _ (no_block : kind ≢ 1) where
       pub end_kind : kind ≡ 2 → length os ≡ 0 → record_of kind os ≡ act (event ended)
       unfolding record_of
-      end_kind e l = rw (ne_eqb kind 0 no_Header, ne_eqb kind 1 no_block, both_hold kind 2 (length os) 0 e l)
+      end_kind e l = rw (ne_eqb kind 0 no_header, ne_eqb kind 1 no_block, both_hold kind 2 (length os) 0 e l)
 
       module _ (no_end : kind ≡ 2 → length os ≢ 0) where
         pub restart-kind : kind ≡ 3 → length os ≡ 2 + store_size → record_of kind os ≡ restart_of os
         unfolding record_of
         restart-kind e l =
-            rw (ne_eqb kind 0 no_Header, ne_eqb kind 1 no_block, one_fails kind 2 (length os) 0 no_end, both_hold kind 3 (length os) (2 + store_size) e l)
+            rw (ne_eqb kind 0 no_header, ne_eqb kind 1 no_block, one_fails kind 2 (length os) 0 no_end, both_hold kind 3 (length os) (2 + store_size) e l)
 
         pub no_kind : (kind ≡ 3 → length os ≢ 2 + store_size) → record_of kind os ≡ none
         unfolding record_of
         no_kind h =
-            rw (ne_eqb kind 0 no_Header, ne_eqb kind 1 no_block, one_fails kind 2 (length os) 0 no_end, one_fails kind 3 (length os) (2 + store_size) h)
+            rw (ne_eqb kind 0 no_header, ne_eqb kind 1 no_block, one_fails kind 2 (length os) 0 no_end, one_fails kind 3 (length os) (2 + store_size) h)
 
 -- ---- a restart
 

@@ -8,6 +8,7 @@ ghost use Rattle.replays.specs.Text.{report_room};
 ghost use Rattle.replay.specs.Reports.{WritesReport};
 ghost use Rattle.replay.specs.Parts.{ReplayTurn};
 
+use inputs::causes;
 use receiver_state::{Receiver, STORE};
 use std::env::{Env, FillError};
 use std::io::{Read, Write};
@@ -139,12 +140,13 @@ fn main(rt: HostRuntime) {
         let _ = eprintln!(rt; "usage: replay < LOG");
         return;
     }
-    let mut from = rt.stdin();
-    let mut to = rt.stdout();
+    let mut from = causes::begun(rt.stdin());
+    let mut to = causes::begun(rt.stdout());
     let mut own = [0u8; 3];
     let first = inputs::fill(&mut from, &mut own);
     if first.failed {
-        let _ = eprintln!(rt; "replay: standard input can't be read");
+        let cause = causes::cause(rt.alloc(), from.error);
+        let _ = eprintln!(rt; "replay: standard input can't be read{cause}");
         return;
     }
     let size = first.size;
@@ -153,8 +155,10 @@ fn main(rt: HostRuntime) {
         return;
     }
     if e.unread {
-        let _ = eprintln!(rt; "replay: standard input can't be read");
+        let cause = causes::cause(rt.alloc(), from.error);
+        let _ = eprintln!(rt; "replay: standard input can't be read{cause}");
         return;
     }
-    let _ = eprintln!(rt; "replay: standard output can't be written");
+    let cause = causes::cause(rt.alloc(), to.error);
+    let _ = eprintln!(rt; "replay: standard output can't be written{cause}");
 }

@@ -8,6 +8,7 @@ mod block_fields;
 mod check_cases;
 mod slot_types;
 
+use inputs::causes;
 use std::env::{Env, FillError};
 
 fn main(rt: HostRuntime) {
@@ -15,7 +16,7 @@ fn main(rt: HostRuntime) {
         let _ = eprintln!(rt; "usage: vectors");
         return;
     }
-    let mut out = rt.stdout();
+    let mut out = causes::begun(rt.stdout());
     let none = report::Tally {
         cases: 0,
         wrong: 0,
@@ -27,6 +28,7 @@ fn main(rt: HostRuntime) {
     let packets = packet_vectors::cases(&mut out, codes);
     let all = report::close(&mut out, packets);
     if !all.written {
-        let _ = eprintln!(rt; "vectors: standard output");
+        let cause = causes::cause(rt.alloc(), out.error);
+        let _ = eprintln!(rt; "vectors: standard output{cause}");
     }
 }
