@@ -4,6 +4,7 @@ pub mod RunParts
 pub mod Tests
 pub mod Every
 pub mod Order
+pub mod Refusals
 pub mod Filling
 pub mod Replaced
 pub mod Copying

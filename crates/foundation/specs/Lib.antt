@@ -1,4 +1,5 @@
 pub mod Bits
 pub mod Order
+pub mod Refusals
 pub mod Octets
 pub mod Parts
