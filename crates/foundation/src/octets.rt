@@ -10,18 +10,18 @@ pub fn at(octets: &[u8], i: usize) -> u8
     octets.get(i).copied().unwrap_or(0)
 }
 
+// The octets from i on; none past the end.
+pub fn rest(octets: &[u8], i: usize) -> &[u8]
+    ensures { result.now ≡ drop i octets.now }
+{
+    octets.get(i..).unwrap_or(&[])
+}
+
 // The eight octets of a number, the highest first.
 pub fn octets_of(x: u64) -> [u8; 8]
     ensures { result ≡ tabulate 8 (λ j. x / 2 ^ (56 - 8 * j) % 2 ^ 8) }
 {
     x.to_be_bytes()
-}
-
-// The octets from i on; none past the end.
-fn rest(octets: &[u8], i: usize) -> &[u8]
-    ensures { result.now ≡ drop i octets.now }
-{
-    octets.get(i..).unwrap_or(&[])
 }
 
 // The 64 bits from octet i on, where there are as many.
