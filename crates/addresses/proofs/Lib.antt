@@ -1,2 +1,1 @@
 pub mod OctetsBack
-pub mod Places

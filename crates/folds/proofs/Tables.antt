@@ -1,10 +1,11 @@
 -- The message's register times x^32, four bits at a time by the table.
 -- Assumes nothing.
-use mathlib.Core.Path.{◌≡◌, sym, ap, ap₂, ◌∙◌}
+use mathlib.Core.Path.{◌≡◌, refl, sym, ap, ap₂, ◌∙◌}
 use mathlib.Core.Bool.{Bool, cond}
 use mathlib.Core.List.{List}
 use Prim.Native.Nat.{ℕ, zero, suc, ◌+◌, ◌*◌, ◌/◌, ◌%◌, ◌^◌, ◌≤◌, ◌<◌}
 use native.Mathlib.Nat.{mod-one, mod-eq_of_lt, mod-lt}
+use native.Mathlib.Numerals.{add-one}
 use native.Mathlib.Omega.{arith}
 use lib.Pow.{pow_pos, pow_mono, mod-pow-add, shl_lt}
 use lib.Bits.{bit_xor, xor_comm, xor_shifted, xor_zero_l}
@@ -24,6 +25,26 @@ entry i = divide 32 message_generator (i % 16) zeros (32 + 4 * (i / 16))
 -- four bits of x, from 4 k on
 abbrev four : ℕ → ℕ → ℕ
 four k x = x / 2 ^ (4 * k) % 16
+
+-- the entries of a table for the first m fours of x, added
+unfoldable pub looked_first : List ℕ → ℕ → ℕ → ℕ
+looked_first t x zero = 0
+looked_first t x (suc m) = bit_xor (looked_first t x m) (get_or t (16 * m + four m x) 0)
+
+pub looked_none : (t : List ℕ) (x : ℕ) → 0 ≡ looked_first t x 0
+unfolding looked_first
+looked_none t x = refl
+
+pub looked_more : (t : List ℕ) (x m s : ℕ) → s ≡ looked_first t x m → bit_xor s (get_or t (16 * m + four m x) 0) ≡ looked_first t x (m + 1)
+unfolding looked_first
+looked_more t x m s e = rw (e, add-one m) refl
+
+pub looked_eight : (t : List ℕ) (x : ℕ) → looked_first t x 8 ≡ looked t x
+unfolding looked looked_first
+looked_eight t x = rw (place, xor_zero_l (get_or t (x % 16) 0)) refl
+  where
+    place : 16 * 0 + four 0 x ≡ x % 16
+    place = omega arith
 
 -- the entries for the first m fours of x
 abbrev gathered : ℕ → ℕ → ℕ

@@ -1,6 +1,6 @@
 // The block's generator. What stands above a register comes back at the lower powers of the generator, of its square and of its fourth
 // power, so that each step halves what is left.
-ghost use Rattle.std.specs.Prelude.{◌≡◌, ◌+◌, ◌*◌, ◌^◌, ◌<◌};
+ghost use Rattle.std.specs.Prelude.{◌≡◌, ◌+◌, ◌*◌, ◌^◌, ◌≤◌, ◌<◌};
 ghost use Rattle.foundation.specs.Bits.{digits, octet_bit, followed};
 ghost use Rattle.polynomials.specs.Remainder.{remainder, check};
 ghost use Rattle.folds.specs.Folds.{block_generator, block_entered, block_halved};
@@ -13,29 +13,14 @@ fn entered(a: u64, b: u64) -> u64
     b ^ (u << 52) ^ (u << 44) ^ (u << 40) ^ (u << 28)
 }
 
-// 64 bits to 36, to 18, to nine.
-fn to_36(x: u64) -> u64
-    ensures { result ≡ block_halved 4 x }
+// 18 K bits to nine K.
+fn halved<const K: u32>(x: u64) -> u64
+    requires { K ≤ 4 }
+    ensures { result ≡ block_halved K x }
 {
-    let t = x >> 36;
-    let u = t ^ (t >> 12) ^ (t >> 20);
-    (x ^ (u << 24) ^ (u << 16) ^ (u << 12) ^ u) % 0x10_0000_0000
-}
-
-fn to_18(x: u64) -> u64
-    ensures { result ≡ block_halved 2 x }
-{
-    let t = x >> 18;
-    let u = t ^ (t >> 6) ^ (t >> 10);
-    (x ^ (u << 12) ^ (u << 8) ^ (u << 6) ^ u) % 0x4_0000
-}
-
-fn to_9(x: u64) -> u16
-    ensures { result ≡ block_halved 1 x }
-{
-    let t = x >> 9;
-    let u = t ^ (t >> 3) ^ (t >> 5);
-    ((x ^ (u << 6) ^ (u << 4) ^ (u << 3) ^ u) % 512) as u16
+    let t = x >> (9 * K);
+    let u = t ^ (t >> (3 * K)) ^ (t >> (5 * K));
+    (x ^ (u << (6 * K)) ^ (u << (4 * K)) ^ (u << (3 * K)) ^ u) % (1 << (9 * K))
 }
 
 // The remainder of 96 bits.
@@ -43,7 +28,7 @@ fn remainder_of(high: u64, low: u64) -> u16
     requires { high < 2 ^ 32 }
     ensures { result ≡ remainder 9 block_generator (digits 96 (high * 2 ^ 64 + low)) 96 }
 {
-    to_9(to_18(to_36(entered(high, low))))
+    halved::<1>(halved::<2>(halved::<4>(entered(high, low)))) as u16
 }
 
 // The check of the first ten octets, zeros where there are fewer, and of the seven low bits of a serial behind them.

@@ -1,6 +1,6 @@
 // The header's generator. Its fourth power is x^64 + x^48 + x^20 + 1, so that 64 bits are taken in at once; a remainder by it has the same
 // remainder by the generator.
-ghost use Rattle.std.specs.Prelude.{◌≡◌};
+ghost use Rattle.std.specs.Prelude.{◌≡◌, ◌≤◌};
 ghost use Rattle.foundation.specs.Bits.{digits};
 ghost use Rattle.polynomials.specs.Remainder.{divide, check};
 ghost use Rattle.folds.specs.Folds.{header_generator, header_fourth, header_times, header_halved};
@@ -21,28 +21,20 @@ pub fn take_word(r: u64, w: u64) -> u64
     times_word(r) ^ w
 }
 
-// 64 bits to 32, to 16.
-fn to_32(x: u64) -> u64
-    ensures { result ≡ header_halved 2 x }
+// 32 K bits to 16 K.
+fn halved<const K: u32>(x: u64) -> u64
+    requires { K ≤ 2 }
+    ensures { result ≡ header_halved K x }
 {
-    let t = x >> 32;
-    let v = t ^ (t >> 8) ^ (t >> 22);
-    let u = v ^ (v >> 16);
-    (x ^ (u << 24) ^ (u << 10) ^ u) % 0x1_0000_0000
-}
-
-fn to_16(x: u64) -> u64
-    ensures { result ≡ header_halved 1 x }
-{
-    let t = x >> 16;
-    let v = t ^ (t >> 4) ^ (t >> 11);
-    let u = v ^ (v >> 8);
-    (x ^ (u << 12) ^ (u << 5) ^ u) % 0x1_0000
+    let t = x >> (16 * K);
+    let v = t ^ (t >> (4 * K)) ^ (t >> (11 * K));
+    let u = v ^ (v >> (8 * K));
+    (x ^ (u << (12 * K)) ^ (u << (5 * K)) ^ u) % (1 << (16 * K))
 }
 
 // The header's check of 64 bits.
 pub fn check_of(x: u64) -> u16
     ensures { result ≡ check 16 header_generator (digits 64 x) 64 }
 {
-    (to_16(to_16(to_32(x)) << 16) % 0x1_0000) as u16
+    (halved::<1>(halved::<1>(halved::<2>(x)) << 16) % 0x1_0000) as u16
 }

@@ -148,12 +148,9 @@ pub fn times_word(table: &[u32], x: u32) -> u32
     if table.len() != 128 {
         return 0;
     }
-    table[(x % 16) as usize]
-        ^ table[16 + ((x >> 4) % 16) as usize]
-        ^ table[32 + ((x >> 8) % 16) as usize]
-        ^ table[48 + ((x >> 12) % 16) as usize]
-        ^ table[64 + ((x >> 16) % 16) as usize]
-        ^ table[80 + ((x >> 20) % 16) as usize]
-        ^ table[96 + ((x >> 24) % 16) as usize]
-        ^ table[112 + ((x >> 28) % 16) as usize]
+    let mut sum = 0;
+    for k in 0..8 {
+        sum ^= table[16 * k + ((x >> (4 * k)) % 16) as usize];
+    }
+    sum
 }

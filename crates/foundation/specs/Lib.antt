@@ -2,4 +2,3 @@ pub mod Bits
 pub mod Order
 pub mod Refusals
 pub mod Octets
-pub mod Parts

@@ -3,7 +3,8 @@ ghost use Rattle.std.specs.Prelude.{◌≡◌};
 ghost use Rattle.foundation.specs.Bits.{tabulate};
 ghost use Rattle.interleaver.specs.Reading.{runs_of, grouped, cut_words, field_words, received_row};
 
-use crate::lanes::Square;
+use crate::lanes::{Square, turned};
+use foundation::octets;
 
 // A field of 64, 64, 64 and 8 bits.
 #[derive(Clone, Copy)]
@@ -15,9 +16,10 @@ struct Words {
 }
 
 // The 13 runs of a field of 64, 64, 64 and 8 bits, the last first.
-fn runs(a: u64, b: u64, c: u64, d: u64) -> Square
-    ensures { result ≡ runs_of a b c d }
+fn runs(w: Words) -> Square
+    ensures { result ≡ runs_of w.a w.b w.c w.d }
 {
+    let Words { a, b, c, d } = w;
     Square {
         a: ((((c << 4) ^ (d >> 4)) % 0x8000) << 48)
             ^ (((c >> 11) % 0x8000) << 32)
@@ -72,16 +74,16 @@ fn in_words(field: &[u8]) -> Words
 {
     if field.len() < 25 {
         return Words {
-            a: foundation::octets::word_at(field, 0),
-            b: foundation::octets::word_at(field, 8),
-            c: foundation::octets::word_at(field, 16),
-            d: foundation::octets::at(field, 24) as u64,
+            a: octets::word_at(field, 0),
+            b: octets::word_at(field, 8),
+            c: octets::word_at(field, 16),
+            d: octets::at(field, 24) as u64,
         };
     }
     Words {
-        a: foundation::octets::whole_word(field, 0),
-        b: foundation::octets::whole_word(field, 8),
-        c: foundation::octets::whole_word(field, 16),
+        a: octets::whole_word(field, 0),
+        b: octets::whole_word(field, 8),
+        c: octets::whole_word(field, 16),
         d: field[24] as u64,
     }
 }
@@ -90,7 +92,6 @@ fn in_words(field: &[u8]) -> Words
 pub fn rows(field: &[u8]) -> [u16; 13]
     ensures { result ≡ tabulate 13 (received_row field.now) }
 {
-    let w = in_words(field);
-    let y = crate::lanes::turned(runs(w.a, w.b, w.c, w.d));
+    let y = turned(runs(in_words(field)));
     cut(group(y.a), group(y.b), group(y.c), group(y.d))
 }

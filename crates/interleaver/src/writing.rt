@@ -3,27 +3,14 @@ ghost use Rattle.std.specs.Prelude.{◌≡◌, ◌≤◌, ◌<◌};
 ghost use Rattle.foundation.specs.Bits.{octets as octets·bits};
 ghost use Rattle.interleaver.specs.Writing.{sent_run, spread_word, groups_of, fifteen, five_runs, field_octets};
 
-use crate::lanes::Square;
+use crate::lanes::{Square, turned};
+use foundation::octets::octets_of;
 
 // The 15 bits of each row; higher ones do not count.
 fn words(m: [u16; 13]) -> [u64; 13]
     ensures { result ≡ fifteen m }
 {
-    [
-        (m[0] % 0x8000) as u64,
-        (m[1] % 0x8000) as u64,
-        (m[2] % 0x8000) as u64,
-        (m[3] % 0x8000) as u64,
-        (m[4] % 0x8000) as u64,
-        (m[5] % 0x8000) as u64,
-        (m[6] % 0x8000) as u64,
-        (m[7] % 0x8000) as u64,
-        (m[8] % 0x8000) as u64,
-        (m[9] % 0x8000) as u64,
-        (m[10] % 0x8000) as u64,
-        (m[11] % 0x8000) as u64,
-        (m[12] % 0x8000) as u64,
-    ]
+    m.map(|row| (row % 0x8000) as u64)
 }
 
 // 52 bits to the thirteen high bits of each lane.
@@ -64,21 +51,19 @@ fn five_runs(h: u64, x: u64, s: u64) -> u64
 pub fn field_of(a: u64, b: u64, c: u64, d: u64) -> [u8; 25]
     ensures { result ≡ field_octets a b c d }
 {
-    let p = foundation::octets::octets_of(a);
-    let q = foundation::octets::octets_of(b);
-    let r = foundation::octets::octets_of(c);
-    let s = foundation::octets::octets_of(d);
-    [
-        p[0], p[1], p[2], p[3], p[4], p[5], p[6], p[7], q[0], q[1], q[2], q[3], q[4], q[5], q[6],
-        q[7], r[0], r[1], r[2], r[3], r[4], r[5], r[6], r[7], s[0],
-    ]
+    let mut field = [0; 25];
+    field[..8].copy_from_slice(&octets_of(a));
+    field[8..16].copy_from_slice(&octets_of(b));
+    field[16..24].copy_from_slice(&octets_of(c));
+    field[24] = octets_of(d)[0];
+    field
 }
 
 // The field of 13 rows, column 0 at bit 14; higher bits of a row do not count.
 pub fn octets(m: [u16; 13]) -> [u8; 25]
     ensures { result ≡ octets·bits 25 (sent_run m) }
 {
-    let x = crate::lanes::turned(groups(words(m)));
+    let x = turned(groups(words(m)));
     let a = five_runs(x.d, x.c, 48);
     let b = five_runs(x.c, x.b, 52);
     let c = five_runs(x.b, x.a, 56);

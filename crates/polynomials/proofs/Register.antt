@@ -13,10 +13,10 @@ use Rattle.foundation.proofs.Runs.{octet_at, octet_bit_bits}
 use Rattle.polynomials.proofs.Division.{reduce-small}
 use Rattle.polynomials.proofs.Check.{check_more}
 
-pub shift_low : (g r : ℕ) → r < 2 ^ 31 → bit_xor (r * 2 ^ 1 % 2 ^ 32) 0 ≡ divide 32 (2 ^ 32 + g) r zeros 1
+pub shift_low : (g r : ℕ) → r < 2 ^ 31 → r * 2 ^ 1 % 2 ^ 32 ≡ divide 32 (2 ^ 32 + g) r zeros 1
 unfolding divide
 shift_low g r h =
-    xor_zero_r (r * 2 ^ 1 % 2 ^ 32) ∙ same
+    same
     ∙ sym (ap (reduce 32 (2 ^ 32 + g)) (xor_zero_r (r * 2)) ∙ reduce-small 32 (2 ^ 32 + g) (r * 2) (omega arith))
   where
     same : r * 2 ^ 1 % 2 ^ 32 ≡ r * 2

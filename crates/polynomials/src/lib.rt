@@ -12,7 +12,7 @@ fn shift(g: u32, r: u32) -> u32
     ensures { result ≡ divide 32 (2 ^ 32 + g) r zeros 1 }
 {
     if r < 0x8000_0000 {
-        (r << 1) ^ 0
+        r << 1
     } else {
         (r << 1) ^ g
     }
@@ -23,10 +23,8 @@ pub fn shifts(g: u32, r: u32, k: usize) -> u32
     ensures { result ≡ divide 32 (2 ^ 32 + g) r zeros k }
 {
     let mut s = r;
-    let mut i: usize = 0;
-    while i < k {
+    for _ in 0..k {
         s = shift(g, s);
-        i += 1;
     }
     s
 }
@@ -43,10 +41,8 @@ pub fn check_of(g: u32, octets: &[u8]) -> u32
     ensures { result ≡ check 32 (2 ^ 32 + g) (octet_bit octets.now) (8 * length octets.now) }
 {
     let mut r: u32 = 0;
-    let mut i: usize = 0;
-    while i < octets.len() {
-        r = take_octet(g, r, octets[i]);
-        i += 1;
+    for octet in octets {
+        r = take_octet(g, r, *octet);
     }
     r
 }

@@ -14,16 +14,12 @@ const DIGITS: usize = 20;
 pub fn put_word(text: &mut [u8], at: usize, word: &[u8]) -> usize
     ensures { (result ≡ end_at text.old at word.now) × (text.new ≡ put text.old at word.now) }
 {
-    let size = text.len();
-    let n = word.len();
     foundation::octets::put(text, at, word);
-    if size < n {
-        return at;
+    if at <= text.len() && word.len() <= text.len() - at {
+        at + word.len()
+    } else {
+        at
     }
-    if size - n < at {
-        return at;
-    }
-    at + n
 }
 
 // A number in decimal.
@@ -40,10 +36,7 @@ fn digit(d: u8) -> u8
     requires { d < 16 }
     ensures { result ≡ hex_digit_ascii d }
 {
-    if d < 10 {
-        return 48 + d;
-    }
-    87 + d
+    if d < 10 { b'0' + d } else { b'a' + (d - 10) }
 }
 
 // Two digits an octet, where there is room.
@@ -51,11 +44,9 @@ fn put_digits(text: &mut [u8], at: usize, octets: &[u8])
     requires { at + 2 * length octets.now ≤ length text.old }
     ensures { text.new ≡ put text.old at (hexadecimal octets.now) }
 {
-    let mut i: usize = 0;
-    while i < octets.len() {
-        text[at + 2 * i] = digit(octets[i] / 16);
-        text[at + 2 * i + 1] = digit(octets[i] % 16);
-        i += 1;
+    for (i, octet) in octets.iter().enumerate() {
+        text[at + 2 * i] = digit(octet / 16);
+        text[at + 2 * i + 1] = digit(octet % 16);
     }
 }
 
@@ -64,17 +55,12 @@ pub fn put_octets(text: &mut [u8], at: usize, octets: &[u8]) -> usize
     ensures { (result ≡ end_at text.old at (octets_text octets.now))
         × (text.new ≡ put text.old at (octets_text octets.now)) }
 {
-    let size = text.len();
-    let n = octets.len();
-    if n == 0 {
+    if octets.is_empty() {
         return put_word(text, at, b"-");
     }
-    if size / 2 < n {
-        return at;
-    }
-    if size - 2 * n < at {
+    if text.len() / 2 < octets.len() || text.len() - 2 * octets.len() < at {
         return at;
     }
     put_digits(text, at, octets);
-    at + 2 * n
+    at + 2 * octets.len()
 }

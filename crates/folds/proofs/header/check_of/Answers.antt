@@ -11,5 +11,5 @@ pub returns : goal.returns
 returns c =
     let x = c.args.x in
     ap (λ (y : ℕ). y % 2 ^ 16)
-    (c.to_16-2.ensures ∙ ap (λ (y : ℕ). header_halved 1 (up 16 y)) (c.to_16.ensures ∙ ap (header_halved 1) c.to_32.ensures))
+    (c.halved-3.ensures ∙ ap (λ (y : ℕ). header_halved 1 (up 16 y)) (c.halved-2.ensures ∙ ap (header_halved 1) c.halved.ensures))
     ∙ header-checked x c.ranges.x.fits

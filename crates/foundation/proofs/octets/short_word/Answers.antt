@@ -1,17 +1,17 @@
 -- `foundation::octets::short_word` meets its contract.
 -- Assumes nothing.
-use mathlib.Core.Path.{◌≡◌, ◌∙◌}
-use Prim.Native.Nat.{◌+◌}
+use mathlib.Core.Path.{ap, ◌∙◌}
 use native.Mathlib.Omega.{arith}
-use lib.ListN.{get_or, get_or-eq_default}
+use lib.ListN.{get_or}
+use Rattle.std.proofs.lemmas.List.{get_or-drop}
 use Rattle.foundation.proofs.OctetLists.{Octets}
-use Rattle.foundation.proofs.OctetWords.{eight_octets}
+use Rattle.foundation.proofs.OctetWords.{eight_each}
 use Rattle.foundation.proofs.octets.short_word.Goals as goal
 
 pub returns : goal.returns
 returns c =
-    let a = c.args in
-    let os = a.octets.now in
+    let os = c.args.octets.now in
     let octet : Octets os = λ j. omega (arith, c.type_inv.octets j) in
-    let last : get_or os (a.i + 7) 0 ≡ 0 = get_or-eq_default os 0 (omega arith) in
-    c.eight.ensures ∙ omega (arith, last, c.at-b.ensures, c.at-c.ensures, c.at-d.ensures, c.at-e.ensures, c.at-f.ensures, c.at-g.ensures, eight_octets os octet a.i)
+    let l = c.rest-short.result.now in
+    let each = eight_each os octet c.args.i l (λ k h. ap (λ l. get_or l k 0) c.rest-short.ensures ∙ get_or-drop c.args.i os k 0) in
+    omega (arith, each)

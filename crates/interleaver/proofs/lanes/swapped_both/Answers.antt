@@ -6,4 +6,4 @@ use Rattle.interleaver.proofs.lanes.swapped_both.Goals as goal
 
 pub returns : goal.returns
 unfolding within
-returns c = c.swapped_2.ensures ∙ ap (swapped 30 twos) c.swapped_1.ensures
+returns c = c.swapped-2.ensures ∙ ap (swapped 30 twos) c.swapped.ensures

@@ -1,9 +1,9 @@
--- `interleaver::lanes::swapped_1` meets its contract.
+-- `interleaver::lanes::swapped` meets its contract.
 -- Assumes nothing.
 use mathlib.Core.Path.{refl}
 use Rattle.interleaver.specs.Lanes.{swapped}
-use Rattle.interleaver.proofs.lanes.swapped_1.Goals as goal
+use Rattle.interleaver.proofs.lanes.swapped.Goals as goal
 
 pub returns : goal.returns
 unfolding swapped
-returns c = refl
+returns g c = refl
