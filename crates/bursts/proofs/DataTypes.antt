@@ -23,10 +23,6 @@ module _ (t : ℕ) where
   unfolding kind_of
   kind_other six seven = rw (ne_eqb t 6 six, ne_eqb t 7 seven)
 
-  pub other_unknown : (k : Kind) → k ≡ kind_of t → k ≡ Other → known (kind_of t) ≡ false
-  unfolding known
-  other_unknown k e f = ap known (sym e ∙ f)
-
   -- a known data type has four bits
   pub known-lt : known (kind_of t) ≡ true → t < 16
   unfolding kind_of known

@@ -3,21 +3,26 @@
 use mathlib.Core.Path.{◌≡◌, refl, sym, ap, ◌∙◌}
 use mathlib.Core.Bool.{Bool, true, false, cond}
 use mathlib.Core.List.{List, []}
+use mathlib.Core.Logic.{⊎_elim}
 use Prim.Native.Nat.{ℕ, ◌+◌, ◌/◌, ◌%◌, ◌^◌, ◌≤◌, ◌<◌}
+use native.Mathlib.Decide.{ℕ_discrete}
+use native.Mathlib.Omega.{arith}
 use lib.Dec.{eqb}
 use lib.ListN.{length, replicate}
 use borrow.Author.Tests.{eq-eqb, ne_eqb, eqb-true, lt-ltb, le-ltb}
 use Rattle.foundation.specs.Bits.{octet_bit}
 use Rattle.foundation.proofs.Runs.{followed_bits, value_lt, octet_bit_bits}
 use Rattle.foundation.specs.Order.{first_failed}
-use Rattle.codes.specs.SlotWord.{read_slot_type, slot_number}
-use Rattle.codes.specs.Field.{read_field}
-use Rattle.codes.specs.declared.block_field.BlockField.{BlockField}
-use Rattle.codes.specs.declared.slot_type.SlotType.TheVariants.{Data, TooWide}
-use Rattle.codes.proofs.SlotReading.{corrects}
-use Rattle.bursts.specs.Bursts.{kind_of, known, slot_bits, field_of, slot_data, burst_slot, burst_field, colour_of, type_of, burst_number, refused_burst, read_burst, burst_part_tests, written_burst, write_burst}
-use Rattle.bursts.specs.Parts.{Typed}
+use Rattle.foundation.specs.Refusals.{refusal, outcome}
+use Rattle.foundation.specs.declared.refusal.Refusal.{Refusal}
+use Rattle.foundation.proofs.Refusals.{ok_zero, ok_same, err_any}
+use Rattle.std.specs.Prelude.{Result, Ok, Err}
+use Rattle.codes.specs.SlotWord.{Data, NoCodeword, TooWide, read_slot_type, slot_number, slot_data, slot_given}
+use Rattle.codes.specs.Field.{read_field, field_given}
+use Rattle.codes.proofs.SlotReading.{corrects, not_wide, given_refusal}
+use Rattle.bursts.specs.Bursts.{kind_of, known, slot_bits, field_of, burst_slot, burst_field, colour_of, type_of, burst_number, refused_burst, read_burst, burst_given, burst_part_tests, written_burst, write_burst}
 use Rattle.bursts.specs.BurstClaims.{Near}
+use Rattle.bursts.specs.declared.burst.Burst.{Burst}
 use Rattle.bursts.specs.declared.burst.Sync.{Sync}
 use Rattle.bursts.proofs.Variants.{slot_good}
 
@@ -94,17 +99,51 @@ module _ (b : List ℕ) where
       go n true e = sym (eqb-true n 0 e)
       go n false e = refl
 
-  -- g is what the block field reads as
-  module _ (d : ℕ) (h : Typed b d) (g : BlockField) (e : g ≡ burst_field b) where
-    field-number : burst_number b ≡ g.number
-    field-number = number-field d h.size h.slot h.kind ∙ sym (ap (λ x. x.number) e)
+  -- what is read of a burst with the slot type d and data type 6 or 7, by its block field
+  module _ (d : ℕ) (h : length b ≡ 33) (s : burst_slot b ≡ Data d) (k : known (kind_of (d % 16)) ≡ true) where
+    pub field_refused : (r : Refusal) → field_given (burst_field b) ≡ Err r → Err r ≡ burst_given (read_burst b)
+    unfolding field_given burst_given
+    field_refused r e =
+        let c : Burst = record { colour = (read_burst b).colour; datatype = (read_burst b).datatype; info = (read_burst b).info } in
+        sym (ap (λ (n : ℕ). outcome n c) (read_number ∙ number-field d h s k) ∙ err_any (burst_field b).number (burst_field b).info c r e)
 
-    pub contents_refused : (g.number ≡ 0 → ⊥) → refused_burst g.number ≡ read_burst b
-    contents_refused z = read-refused g.number z field-number
-
-    pub contents_read : g.number ≡ 0 → record { number = 0; colour = d / 16; datatype = d % 16; info = g.info } ≡ read_burst b
+    pub contents_read : (burst_field b).number ≡ 0 → record { number = 0; colour = d / 16; datatype = d % 16; info = (burst_field b).info } ≡ read_burst b
     unfolding read_burst slot_data
-    contents_read z = rw (field-number, z, h.slot, e)
+    contents_read z = rw (number-field d h s k, z, s)
+
+    pub field_good : (os : List ℕ) → field_given (burst_field b) ≡ Ok os → Ok (record { colour = d / 16; datatype = d % 16; info = os }) ≡ burst_given (read_burst b)
+    unfolding field_given burst_given outcome
+    field_good os e =
+        let n = (burst_field b).number in
+        let i = (burst_field b).info in
+        let made : List ℕ → Result Burst Refusal = λ x. Ok (record { colour = d / 16; datatype = d % 16; info = x }) in
+        sym (ap made (ok_same n i os e)) ∙ ap burst_given (contents_read (ok_zero n i os e))
+
+  -- no slot type is given: the size, or no codeword near
+
+  pub slot_four : (r : Refusal) → length b ≡ 33 → slot_given (burst_slot b) ≡ Err r → burst_slot b ≡ NoCodeword
+  slot_four r h e = ⊎_elim (λ n. n) (λ w. absurd (not_wide (slot_bits b) slot_lt (slot_read h ∙ w))) (given_refusal (burst_slot b) r e)
+
+  slot_same : (r : Refusal) → slot_given (burst_slot b) ≡ Err r → burst_number b ≡ slot_number (burst_slot b)
+  unfolding slot_number
+  slot_same r e = go (ℕ_discrete (length b) 33)
+    where
+      go : Dec (length b ≡ 33) → burst_number b ≡ slot_number (burst_slot b)
+      go (yes h) = let n = slot_four r h e in number-slot h (ap slot_good n) ∙ sym (ap slot_number n)
+      go (no h) = number_size h ∙ ap slot_number (slot-size h)
+
+  pub slot_refused : (r : Refusal) → slot_given (burst_slot b) ≡ Err r → Err r ≡ burst_given (read_burst b)
+  unfolding slot_given burst_given
+  slot_refused r e =
+      let c : Burst = record { colour = (read_burst b).colour; datatype = (read_burst b).datatype; info = (read_burst b).info } in
+      sym (ap (λ (n : ℕ). outcome n c) (read_number ∙ slot_same r e) ∙ err_any (slot_number (burst_slot b)) (slot_data (burst_slot b)) c r e)
+
+  pub slot_sized : (d : ℕ) → burst_slot b ≡ Data d → length b ≡ 33
+  slot_sized d e = go (ℕ_discrete (length b) 33)
+    where
+      go : Dec (length b ≡ 33) → length b ≡ 33
+      go (yes h) = h
+      go (no h) = absurd (let q : TooWide ≡ Data d = slot-size h ∙ e in let z : ◌≡◌ {A = ℕ} 0 1 = cc in omega arith)
 
 -- ---- writing
 

@@ -18,11 +18,9 @@ use Rattle.codes.specs.Field.{plain_at, information, product, plain, sent_bits, 
 use Rattle.codes.proofs.SlotWords.{slot_word-lt}
 use Rattle.codes.proofs.FieldReading.{information_bits, plain_bits, corrects-field, field_back}
 use Rattle.codes.proofs.Product.{product_bits}
-use Rattle.bursts.specs.Bursts.{kind_of, known, slot_bits, field_of, read_burst, sync_word, burst_bits, written_burst, write_burst}
+use Rattle.bursts.specs.Bursts.{BurstRead, kind_of, known, slot_bits, field_of, read_burst, sync_word, burst_bits, written_burst, write_burst}
 use Rattle.bursts.specs.BurstClaims.{BurstComesBack}
 use Rattle.bursts.specs.Parts.{field_run}
-use Rattle.bursts.specs.declared.burst.Burst.{Burst}
-use Rattle.bursts.specs.declared.burst.BurstOctets.{BurstOctets}
 use Rattle.bursts.specs.declared.burst.Sync.{Sync}
 use Rattle.foundation.proofs.RunParts.{value_octets, octet_bit_past, length-octets}
 use Rattle.bursts.proofs.DataTypes.{known-lt}
@@ -111,21 +109,17 @@ module _ (colour type : ℕ) (info : List ℕ) (sync : Sync) where
 -- ---- what is read from it, also with wrong bits
 
 module _ (colour type : ℕ) (info : List ℕ) (small : colour < 16) (kind : known (kind_of type) ≡ true) where
-  made : ℕ → ℕ → Burst
-  made c t = record { number = 0; colour = c; datatype = t; info = info }
+  made : ℕ → ℕ → List ℕ → BurstRead
+  made c t os = record { number = 0; colour = c; datatype = t; info = os }
 
   reads : (b : List ℕ) → length b ≡ 33 → distance (slot_bits b) (slot_word (16 * colour + type)) ≤ 3
       → read_field (field_of b) ≡ record { number = 0; info = info } → read_burst b ≡ record { number = 0; colour = colour; datatype = type; info = info }
   unfolding made
   reads b h near field =
-      sym (contents_read b (16 * colour + type)
-      (record {
-        size = h;
-        slot = near_slot b (16 * colour + type) h (omega (arith, low), near);
-        kind = subst (λ (t : ℕ). known (kind_of t) ≡ true) (sym rest) kind;
-      })
-      (record { number = 0; info = info }) (sym field ∙ field-read b h) refl)
-      ∙ ap₂ made quotient rest
+      let d : ℕ = 16 * colour + type in
+      let is = sym (field-read b h) ∙ field in
+      sym (contents_read b d h (near_slot b d h (omega (arith, low), near)) (subst (λ (t : ℕ). known (kind_of t) ≡ true) (sym rest) kind) (ap (λ x. x.number) is))
+      ∙ ap (made (d / 16) (d % 16)) (ap (λ x. x.info) is) ∙ ap₂ (λ (c t : ℕ). made c t info) quotient rest
     where
       low : type < 16
       low = known-lt type kind
@@ -161,15 +155,3 @@ reads_back colour type info sync small kind size octet =
     reads colour type info small kind (written_burst colour type info sync) (written-length colour type info sync)
     (rw (written-slot colour type info sync small (known-lt type kind), distance_self) (omega arith))
     (ap read_field (written-field colour type info sync) ∙ field_back info size octet)
-
--- whatever the writer answers without a number comes back
-pub answer_back : (colour type : ℕ) (info : List ℕ) (sync : Sync) → length info ≡ 12 → ((j : ℕ) → get_or info j 0 < 256) → (r : BurstOctets)
-    → r ≡ write_burst colour type info sync → r.number ≡ 0 → BurstComesBack colour type info r.octets
-answer_back colour type info sync size octet r is none = go (dec_lt colour 16) (known (kind_of type)) refl
-  where
-    go : Dec (colour < 16) → (k : Bool) → known (kind_of type) ≡ k → BurstComesBack colour type info r.octets
-    go (yes small) true k =
-        subst (λ (x : BurstOctets). BurstComesBack colour type info x.octets) (write_good colour type info sync small k ∙ sym is)
-        (comes_back colour type info sync small k size octet)
-    go (yes small) false k = let e : r.number ≡ 16 = ap (λ (x : BurstOctets). x.number) (is ∙ sym (write_other colour type info sync small k)) in absurd (omega arith)
-    go (no wide) t k = let e : r.number ≡ 16 = ap (λ (x : BurstOctets). x.number) (is ∙ sym (write_wide colour type info sync (omega arith))) in absurd (omega arith)

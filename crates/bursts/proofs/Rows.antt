@@ -11,10 +11,8 @@ use lib.ListN.{length}
 use borrow.Author.Tests.{eq-eqb}
 use Rattle.foundation.specs.Order.{first_failed}
 use Rattle.foundation.proofs.Tests.{exactly}
-use Rattle.codes.specs.SlotWord.{read_slot_type, slot_number}
+use Rattle.codes.specs.SlotWord.{SlotType, Data, NoCodeword, TooWide, read_slot_type, slot_number}
 use Rattle.codes.specs.Field.{corrected_field, rows_good, columns_good, reserved_clear, matrix_tests, field_number, read_field}
-use Rattle.codes.specs.declared.slot_type.SlotType.{SlotType}
-use Rattle.codes.specs.declared.slot_type.SlotType.TheVariants.{Data, NoCodeword, TooWide}
 use Rattle.codes.proofs.SlotReading.{reads_near}
 use Rattle.bursts.specs.Bursts.{kind_of, known, slot_bits, field_of, read_burst, write_burst}
 use Rattle.bursts.specs.BurstClaims.{Near, Untyped, OtherType, FieldGives, BurstRow, burst-size, slot_type_lem, data_type, field-good, field_code, field-reserved}

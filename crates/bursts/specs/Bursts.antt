@@ -1,16 +1,14 @@
 -- A burst: 264 bits in 33 octets, the first bit highest in octet 0. Bits 0-97 and 166-263 are the block field, 98-107 and 156-165 the
 -- slot type, 108-155 the sync.
 -- Assumes nothing.
-use Rattle.std.specs.Prelude.{Bool, true, false, cond, List, [], ◌∷◌, ℕ, ◌+◌, ◌*◌, ◌/◌, ◌%◌, eqb, ltb, length, replicate}
+use Rattle.std.specs.Prelude.{Bool, Result, true, false, cond, List, [], ◌∷◌, ℕ, ◌+◌, ◌*◌, ◌/◌, ◌%◌, eqb, ltb, length, replicate}
 use Rattle.foundation.specs.Bits.{digits, octet_bit, followed, value_of, octets}
 use Rattle.foundation.specs.Order.{first_failed}
-use Rattle.codes.specs.SlotWord.{slot_word, read_slot_type, slot_number}
-use Rattle.codes.specs.Field.{written_field, read_field}
-use Rattle.codes.specs.declared.block_field.BlockField.{BlockField}
-use Rattle.codes.specs.declared.slot_type.SlotType.{SlotType}
-use Rattle.codes.specs.declared.slot_type.SlotType.TheVariants.{Data, NoCodeword, TooWide}
+use Rattle.foundation.specs.Refusals.{outcome}
+use Rattle.foundation.specs.declared.refusal.Refusal.{Refusal}
+use Rattle.codes.specs.SlotWord.{SlotType, TooWide, slot_word, read_slot_type, slot_number, slot_data}
+use Rattle.codes.specs.Field.{BlockField, written_field, read_field}
 use Rattle.bursts.specs.declared.burst.Burst.{Burst}
-use Rattle.bursts.specs.declared.burst.BurstOctets.{BurstOctets}
 use Rattle.bursts.specs.declared.burst.Kind.{Kind}
 use Rattle.bursts.specs.declared.burst.Kind.TheVariants.{Header, Block, Other}
 use Rattle.bursts.specs.declared.burst.Sync.{Sync}
@@ -35,12 +33,6 @@ slot_bits b = value_of (followed 10 (λ p. octet_bit b (98 + p)) (λ p. octet_bi
 unfoldable pub field_of : List ℕ → List ℕ
 field_of b = octets 25 (followed 98 (octet_bit b) (λ p. octet_bit b (166 + p)))
 
--- the data octet of a slot type, 0 where there is none
-unfoldable pub slot_data : SlotType → ℕ
-slot_data (Data d) = d
-slot_data NoCodeword = 0
-slot_data TooWide = 0
-
 -- the slot type of a burst, and what its block field reads as; octets of another size have neither
 unfoldable pub burst_slot : List ℕ → SlotType
 burst_slot b = cond (eqb (length b) 33) (read_slot_type (slot_bits b)) TooWide
@@ -62,12 +54,22 @@ burst_number b =
     ∷ (eqb (burst_field b).number 0, (burst_field b).number) ∷ [])
 
 -- what a burst reads as; zeros beside the number of a refusal
-abbrev pub refused_burst : ℕ → Burst
+pub record BurstRead : Type 0 where
+  pub number : ℕ
+  pub colour : ℕ
+  pub datatype : ℕ
+  pub info : List ℕ
+
+abbrev pub refused_burst : ℕ → BurstRead
 refused_burst n = record { number = n; colour = 0; datatype = 0; info = replicate 12 0 }
 
-unfoldable pub read_burst : List ℕ → Burst
+unfoldable pub read_burst : List ℕ → BurstRead
 read_burst b =
     cond (eqb (burst_number b) 0) (record { number = 0; colour = colour_of b; datatype = type_of b; info = (burst_field b).info }) (refused_burst (burst_number b))
+
+-- what reading gives: the contents where the number is 0, else the refusal
+unfoldable pub burst_given : BurstRead → Result Burst Refusal
+burst_given b = outcome b.number (record { colour = b.colour; datatype = b.datatype; info = b.info })
 
 -- ---- writing
 
@@ -90,8 +92,16 @@ unfoldable pub burst_part_tests : ℕ → ℕ → List (Bool × ℕ)
 burst_part_tests colour type = (ltb colour 16, 16) ∷ (known (kind_of type), 16) ∷ []
 
 -- what the writer answers; zeros beside the number of a refusal
+pub record BurstOctets : Type 0 where
+  pub number : ℕ
+  pub octets : List ℕ
+
 unfoldable pub write_burst : ℕ → ℕ → List ℕ → Sync → BurstOctets
 write_burst colour type info sync = record {
   number = first_failed (burst_part_tests colour type);
   octets = cond (eqb (first_failed (burst_part_tests colour type)) 0) (written_burst colour type info sync) (replicate 33 0);
 }
+
+-- what the writer gives: the octets where the number is 0, else the refusal
+unfoldable pub burst_octets_given : BurstOctets → Result (List ℕ) Refusal
+burst_octets_given w = outcome w.number w.octets

@@ -1,60 +1,47 @@
 // A burst of 33 octets: block field, slot type and sync.
-ghost use Rattle.std.specs.Prelude.{◌≡◌, length, ◌+◌, ◌*◌, ◌%◌, ◌^◌, ◌<◌};
+ghost use Rattle.std.specs.Prelude.{◌≡◌, length, IfOk, ◌+◌, ◌*◌, ◌%◌, ◌^◌, ◌<◌};
 ghost use Rattle.foundation.specs.Bits.{octet_bit, value_of, octets};
-ghost use Rattle.bursts.specs.Bursts.{kind_of, slot_bits, field_of, burst_slot, burst_field, refused_burst, read_burst, sync_word, burst_bits, written_burst, write_burst};
+ghost use Rattle.codes.specs.SlotWord.{slot_given};
+ghost use Rattle.codes.specs.Field.{field_given};
+ghost use Rattle.bursts.specs.Bursts.{kind_of, slot_bits, field_of, burst_slot, burst_field, read_burst, burst_given, sync_word, burst_bits, written_burst, write_burst, burst_octets_given};
 ghost use Rattle.bursts.specs.BurstClaims.{BurstComesBack};
-ghost use Rattle.bursts.specs.Parts.{field_run, Typed};
+ghost use Rattle.bursts.specs.Parts.{field_run};
 
-use codes::block_field::BlockField;
-use codes::slot_type::SlotType;
+use foundation::refusal::Refusal;
 
 // What a burst carries, by the four bits of its data type.
-#[derive(Clone, Copy)]
+#[derive(Clone, Copy, Debug, PartialEq, Eq)]
 pub enum Kind {
     Header,
     Block,
     Other,
 }
 
+impl From<u8> for Kind {
+    ghost from_gives = { λ datatype kind. kind ≡ kind_of datatype };
+
+    fn from(datatype: u8) -> Kind {
+        match datatype {
+            6 => Kind::Header,
+            7 => Kind::Block,
+            _ => Kind::Other,
+        }
+    }
+}
+
 // The sync that the writer puts into a burst.
-#[derive(Clone, Copy)]
+#[derive(Clone, Copy, Debug, PartialEq, Eq)]
 pub enum Sync {
     Base,
     Mobile,
 }
 
-// What is read from a burst: number 0 and its contents, or the number of the refusal and zeros.
-#[derive(Clone, Copy)]
+// What is read from a burst.
+#[derive(Clone, Copy, Debug, PartialEq, Eq)]
 pub struct Burst {
-    pub number: u8,
     pub colour: u8,
     pub datatype: u8,
     pub info: [u8; 12],
-}
-
-// What is written: number 0 and the octets, or the number of the refusal and zeros.
-#[derive(Clone, Copy)]
-pub struct BurstOctets {
-    pub number: u8,
-    pub octets: [u8; 33],
-}
-
-// What a data type says.
-pub fn kind_of(datatype: u8) -> Kind
-    ensures { result ≡ kind_of datatype }
-{
-    match datatype {
-        6 => Kind::Header,
-        7 => Kind::Block,
-        _ => Kind::Other,
-    }
-}
-
-// An octet as a word of 32 bits.
-fn wide(x: u8) -> u32
-    ensures { result ≡ x }
-{
-    x as u32
 }
 
 // The 20 bits of the slot type: 6 of octet 12, 4 of octet 13, 4 of octet 19, 6 of octet 20.
@@ -62,17 +49,17 @@ fn slot_bits(b: &[u8]) -> u32
     requires { length b.now ≡ 33 }
     ensures { result ≡ slot_bits b.now }
 {
-    let first = wide(b[12] % 64) * 16 + wide(b[13] / 16);
-    let second = wide(b[19] % 16) * 64 + wide(b[20] / 4);
+    let first = u32::from(b[12] % 64) * 16 + u32::from(b[13] / 16);
+    let second = u32::from(b[19] % 16) * 64 + u32::from(b[20] / 4);
     first * 1024 + second
 }
 
 // The slot type of a burst. Octets of another size have none.
-pub fn slot_type(burst: &[u8]) -> SlotType
-    ensures { result ≡ burst_slot burst.now }
+pub fn slot_type(burst: &[u8]) -> Result<u8, Refusal>
+    ensures { result ≡ slot_given (burst_slot burst.now) }
 {
     if burst.len() != 33 {
-        return SlotType::TooWide;
+        return Err(Refusal::Size);
     }
     codes::slot_type::read(slot_bits(burst))
 }
@@ -108,60 +95,31 @@ fn field_octets(b: &[u8]) -> [u8; 25]
 }
 
 // What the block field of a burst reads as.
-pub fn field(burst: &[u8]) -> BlockField
-    ensures { result ≡ burst_field burst.now }
+pub fn field(burst: &[u8]) -> Result<[u8; 12], Refusal>
+    ensures { result ≡ field_given (burst_field burst.now) }
 {
-    if burst.len() != 33 {
-        return codes::block_field::read(b"");
-    }
-    let f = field_octets(burst);
-    codes::block_field::read(&f)
-}
-
-// A refusal of this number.
-fn refused(number: u8) -> Burst
-    ensures { result ≡ refused_burst number }
-{
-    Burst {
-        number,
-        colour: 0,
-        datatype: 0,
-        info: [0u8; 12],
-    }
-}
-
-// What a burst of this slot type reads as, by its block field.
-fn contents(burst: &[u8], d: u8) -> Burst
-    requires { Typed burst.now d }
-    ensures { result ≡ read_burst burst.now }
-{
-    let got = field(burst);
-    if got.number != 0 {
-        return refused(got.number);
-    }
-    let info = got.info;
-    Burst {
-        number: 0,
-        colour: d / 16,
-        datatype: d % 16,
-        info,
+    if burst.len() == 33 {
+        codes::block_field::read(&field_octets(burst))
+    } else {
+        Err(Refusal::Size)
     }
 }
 
 // Reads a burst. The sync is not tested.
-pub fn read(burst: &[u8]) -> Burst
-    ensures { result ≡ read_burst burst.now }
+pub fn read(burst: &[u8]) -> Result<Burst, Refusal>
+    ensures { result ≡ burst_given (read_burst burst.now) }
 {
-    if burst.len() != 33 {
-        return refused(1);
+    let slot = slot_type(burst)?;
+    let datatype = slot % 16;
+    if Kind::from(datatype) == Kind::Other {
+        return Err(Refusal::DataType);
     }
-    let SlotType::Data(d) = slot_type(burst) else {
-        return refused(4);
-    };
-    match kind_of(d % 16) {
-        Kind::Other => refused(5),
-        _ => contents(burst, d),
-    }
+    let info = field(burst)?;
+    Ok(Burst {
+        colour: slot / 16,
+        datatype,
+        info,
+    })
 }
 
 // ---- writing
@@ -232,23 +190,12 @@ fn written(colour: u8, datatype: u8, info: [u8; 12], sync: Sync) -> [u8; 33]
 }
 
 // Writes a burst. With wrong bits that the codes put right it comes back.
-pub fn write(colour: u8, datatype: u8, info: [u8; 12], sync: Sync) -> BurstOctets
-    ensures { (result ≡ write_burst colour datatype info sync) × (result.number ≡ 0 → BurstComesBack colour datatype info result.octets) }
+pub fn write(colour: u8, datatype: u8, info: [u8; 12], sync: Sync) -> Result<[u8; 33], Refusal>
+    ensures gives { result ≡ burst_octets_given (write_burst colour datatype info sync) }
+    ensures comes_back { IfOk result (λ octets. BurstComesBack colour datatype info octets) }
 {
-    if 16 <= colour {
-        return BurstOctets {
-            number: 16,
-            octets: [0u8; 33],
-        };
+    if 16 <= colour || Kind::from(datatype) == Kind::Other {
+        return Err(Refusal::Unwritable);
     }
-    match kind_of(datatype) {
-        Kind::Other => BurstOctets {
-            number: 16,
-            octets: [0u8; 33],
-        },
-        _ => BurstOctets {
-            number: 0,
-            octets: written(colour, datatype, info, sync),
-        },
-    }
+    Ok(written(colour, datatype, info, sync))
 }

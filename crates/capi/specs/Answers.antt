@@ -2,9 +2,9 @@
 -- Assumes nothing.
 use Rattle.std.specs.Prelude.{Bool, List, [], ◌∷◌, ◌++◌, ℕ, eqb, leb, length, replicate}
 use Rattle.foundation.specs.Order.{first_failed}
-use Rattle.codes.specs.SlotWord.{read_slot_type, slot_number}
+use Rattle.codes.specs.SlotWord.{read_slot_type, slot_number, slot_data}
 use Rattle.codes.specs.Field.{written_field, read_field}
-use Rattle.bursts.specs.Bursts.{slot_data, read_burst, write_burst}
+use Rattle.bursts.specs.Bursts.{read_burst, write_burst}
 use Rattle.datagrams.specs.Datagrams.{read_datagram, write_datagram}
 use Rattle.packets.specs.Blocks.{read_block, write_block}
 use Rattle.packets.specs.Headers.{read_header, write_header}

@@ -5,7 +5,7 @@ ghost use Rattle.codes.specs.SlotWord.{slot_word};
 ghost use Rattle.layouts.specs.Lent.{Gives};
 ghost use Rattle.capi.specs.Answers.{slot_read, field_written, field_read};
 
-use codes::slot_type::SlotType;
+use crate::refuse;
 use layouts::lent::give;
 
 // The 20 bits of a slot type.
@@ -22,9 +22,8 @@ pub extern "C" fn kirruskabe_read_slot_type(word: u32, out: &mut [u8]) -> u8
     ensures { Gives 1 (slot_read word) out.old result out.new }
 {
     match codes::slot_type::read(word) {
-        SlotType::Data(octet) => give(out, 0, &[octet]),
-        SlotType::NoCodeword => give(out, 4, &[0u8]),
-        SlotType::TooWide => give(out, 1, &[0u8]),
+        Ok(octet) => give(out, 0, &[octet]),
+        Err(refusal) => refuse(out, 1, refusal),
     }
 }
 
@@ -47,8 +46,10 @@ pub extern "C" fn kirruskabe_write_field(info: &[u8], out: &mut [u8]) -> u8
 pub extern "C" fn kirruskabe_read_field(field: &[u8], out: &mut [u8]) -> u8
     ensures { Gives 12 (field_read field.now) out.old result out.new }
 {
-    let f = codes::block_field::read(field);
-    give(out, f.number, &f.info)
+    match codes::block_field::read(field) {
+        Ok(info) => give(out, 0, &info),
+        Err(refusal) => refuse(out, 12, refusal),
+    }
 }
 
 // The header's check with any mask.

@@ -2,6 +2,7 @@
 ghost use Rattle.layouts.specs.Lent.{Gives};
 ghost use Rattle.capi.specs.Answers.{datagram_read, burst_read, header_read, block_read, response_read};
 
+use crate::refuse;
 use layouts::lent::{give, give_both};
 use packets::header::HeaderAnswer;
 
@@ -10,10 +11,13 @@ use packets::header::HeaderAnswer;
 pub extern "C" fn kirruskabe_read_datagram(datagram: &[u8], out: &mut [u8]) -> u8
     ensures { Gives 31 (datagram_read datagram.now) out.old result out.new }
 {
-    let d = datagrams::read(datagram);
-    let labels = d.labels;
-    let head = layouts::fields::label_octets(labels, d.colour, d.datatype);
-    give_both(out, d.number, &head, &d.info)
+    match datagrams::read(datagram) {
+        Ok(d) => {
+            let head = layouts::fields::label_octets(d.labels, d.colour, d.datatype);
+            give_both(out, 0, &head, &d.info)
+        }
+        Err(refusal) => refuse(out, 31, refusal),
+    }
 }
 
 // A burst.
@@ -21,9 +25,10 @@ pub extern "C" fn kirruskabe_read_datagram(datagram: &[u8], out: &mut [u8]) -> u
 pub extern "C" fn kirruskabe_read_burst(burst: &[u8], out: &mut [u8]) -> u8
     ensures { Gives 14 (burst_read burst.now) out.old result out.new }
 {
-    let b = bursts::burst::read(burst);
-    let head = [b.colour, b.datatype];
-    give_both(out, b.number, &head, &b.info)
+    match bursts::burst::read(burst) {
+        Ok(b) => give_both(out, 0, &[b.colour, b.datatype], &b.info),
+        Err(refusal) => refuse(out, 14, refusal),
+    }
 }
 
 // A header.

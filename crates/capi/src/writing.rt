@@ -5,9 +5,11 @@ ghost use Rattle.layouts.specs.Lent.{Gives};
 ghost use Rattle.layouts.specs.Layouts.{common_from, header_from, labels_from};
 ghost use Rattle.capi.specs.Answers.{message_size, header_before, header_again, message_block, fields_written, block_written, response_written, burst_written, datagram_written};
 
+use crate::refuse;
 use addresses::{RepeaterNumber, address_at, number_at};
 use datagrams::Labels;
 use foundation::octets::{at, put};
+use foundation::refusal::Refusal;
 use layouts::lent::{give, give_both};
 use packets::header::{Common, HeaderAnswer};
 
@@ -178,8 +180,13 @@ pub extern "C" fn kirruskabe_write_burst(
     }
     let mut os = [0u8; 12];
     put(&mut os, 0, info);
-    let w = bursts::burst::write(colour, datatype, os, layouts::fields::sync_of(sync));
-    give(out, at_most(1, sync, w.number), &w.octets)
+    if 1 < sync {
+        return refuse(out, 33, Refusal::Unwritable);
+    }
+    match bursts::burst::write(colour, datatype, os, layouts::fields::sync_of(sync)) {
+        Ok(octets) => give(out, 0, &octets),
+        Err(refusal) => refuse(out, 33, refusal),
+    }
 }
 
 fn labels_from(f: &[u8]) -> Labels
@@ -208,22 +215,19 @@ pub extern "C" fn kirruskabe_write_datagram(
 ) -> u8
     ensures { Gives 53 (datagram_written labels.now colour datatype info.now sync) out.old result out.new }
 {
-    if labels.len() != 17 {
-        return 1;
-    }
-    if info.len() != 12 {
+    if labels.len() != 17 || info.len() != 12 {
         return 1;
     }
     let mut os = [0u8; 12];
     put(&mut os, 0, info);
-    let w = datagrams::write(
-        labels_from(labels),
-        colour,
-        datatype,
-        os,
-        layouts::fields::sync_of(sync),
-    );
-    give(out, at_most(1, sync, w.number), &w.octets)
+    if 1 < sync {
+        return refuse(out, 53, Refusal::Unwritable);
+    }
+    let l = labels_from(labels);
+    match datagrams::write(l, colour, datatype, os, layouts::fields::sync_of(sync)) {
+        Ok(octets) => give(out, 0, &octets),
+        Err(refusal) => refuse(out, 53, refusal),
+    }
 }
 
 // The sequence counter of the next datagram.

@@ -2,16 +2,11 @@
 ghost use Rattle.std.specs.Prelude.{◌≡◌, true, ℕ, ◌+◌, ◌*◌, ◌/◌, ◌%◌, ◌^◌, ◌<◌};
 ghost use Rattle.foundation.specs.Bits.{digits, value_of, tabulate};
 ghost use Rattle.codes.specs.Hamming.{syndrome, with_parity};
-ghost use Rattle.codes.specs.Field.{information, product, written_field, columns_good, info_bit, info_octets, read_field};
+ghost use Rattle.codes.specs.Field.{information, product, written_field, columns_good, info_bit, info_octets, read_field, field_given};
 ghost use Rattle.codes.specs.Claims.{FieldComesBack};
 ghost use Rattle.codes.specs.Words.{cell, column, matrix_read, Sliced, ColumnsRight, RowRight, RowsRight, LaneRemainders, RowRemainders, NoneLeft, Codewords, data_rows};
 
-// What is read from a block field: number 0 and the information, or the number of the refusal and zeros.
-#[derive(Clone, Copy)]
-pub struct BlockField {
-    pub number: u8,
-    pub info: [u8; 12],
-}
+use foundation::refusal::Refusal;
 
 // A number below 16 for each column, its bits in four words, the lowest in a.
 #[derive(Clone, Copy)]
@@ -141,10 +136,7 @@ fn columns_good(m: [u16; 13]) -> bool
 fn is_clean(m: [u16; 13]) -> bool
     ensures { result ≡ true → Codewords m }
 {
-    if !columns_good(m) {
-        return false;
-    }
-    none_left(row_remainders(m))
+    columns_good(m) && none_left(row_remainders(m))
 }
 
 // The eleven data bits of a row.
@@ -186,29 +178,22 @@ fn info_octets(m: [u16; 13]) -> [u8; 12]
 }
 
 // What a matrix of codewords reads as.
-fn read_matrix(m: [u16; 13]) -> BlockField
+fn read_matrix(m: [u16; 13]) -> Result<[u8; 12], Refusal>
     requires { Codewords m }
-    ensures { result ≡ matrix_read (cell m) }
+    ensures { result ≡ field_given (matrix_read (cell m)) }
 {
     if m[0] / 4096 % 8 != 0 {
-        return BlockField {
-            number: 7,
-            info: [0u8; 12],
-        };
+        return Err(Refusal::Reserved);
     }
-    let info = info_octets(m);
-    BlockField { number: 0, info }
+    Ok(info_octets(m))
 }
 
 // Reads the 25 octets of a block field.
-pub fn read(field: &[u8]) -> BlockField
-    ensures { result ≡ read_field field.now }
+pub fn read(field: &[u8]) -> Result<[u8; 12], Refusal>
+    ensures { result ≡ field_given (read_field field.now) }
 {
     if field.len() != 25 {
-        return BlockField {
-            number: 1,
-            info: [0u8; 12],
-        };
+        return Err(Refusal::Size);
     }
     let m = interleaver::reading::rows(field);
     if is_clean(m) {
@@ -216,10 +201,7 @@ pub fn read(field: &[u8]) -> BlockField
     }
     let corrected = correct_rows(correct_columns(m));
     if !columns_good(corrected) {
-        return BlockField {
-            number: 6,
-            info: [0u8; 12],
-        };
+        return Err(Refusal::Uncorrectable);
     }
     read_matrix(corrected)
 }

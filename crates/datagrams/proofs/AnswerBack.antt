@@ -4,9 +4,10 @@ use Rattle.std.proofs.Common.{◌≡◌, ℕ, ◌^◌, ◌<◌, ◌≤◌, Bool,
 use native.Mathlib.Decide.{dec_lt}
 use Rattle.bursts.specs.Bursts.{kind_of, known}
 use Rattle.bursts.specs.declared.burst.Sync.{Sync}
-use Rattle.datagrams.specs.Datagrams.{write_datagram}
+use Rattle.std.specs.Prelude.{Ok}
+use Rattle.foundation.proofs.Refusals.{ok_zero, ok_same}
+use Rattle.datagrams.specs.Datagrams.{DatagramOctets, write_datagram, datagram_octets_given}
 use Rattle.datagrams.specs.DatagramClaims.{Fits, Outside, DatagramComesBack}
-use Rattle.datagrams.specs.declared.DatagramOctets.{DatagramOctets}
 use Rattle.datagrams.specs.declared.Labels.{Labels}
 use Rattle.datagrams.proofs.DatagramClaims.{datagrams}
 
@@ -46,3 +47,13 @@ module _ (l : Labels) (colour type : ℕ) (info : List ℕ) (sync : Sync) (r : D
           small : colour < 16
           small = below _ _ (λ h. inside none (inr (inr (inr (inr (inl h))))))
       go none false kind = absurd (inside none (inr (inr (inr (inr (inr kind))))))
+
+module _ (l : Labels) (colour type : ℕ) (info : List ℕ) (sync : Sync) (sequence : l.sequence < 256) (repeater : l.repeater.0 < 2 ^ 32)
+    (stream : l.stream < 2 ^ 32) (size : length info ≡ 12) (octet : (j : ℕ) → get_or info j 0 < 256) where
+  -- so do the octets that it gives
+  pub given_back : (os : List ℕ) → Ok os ≡ datagram_octets_given (write_datagram l colour type info sync) → DatagramComesBack l colour type info os
+  unfolding datagram_octets_given
+  given_back os e =
+      let w = write_datagram l colour type info sync in
+      subst (λ (x : List ℕ). DatagramComesBack l colour type info x) (ok_same w.number w.octets os (sym e))
+      ((answer_back l colour type info sync w refl sequence repeater stream size octet).1 (ok_zero w.number w.octets os (sym e)))

@@ -8,10 +8,9 @@ use Rattle.codes.specs.Field.{written_field, read_field, Correctable}
 use Rattle.foundation.proofs.Tests.{all-eq}
 use Rattle.codes.proofs.FieldReading.{corrects-field, field_back}
 use Rattle.bursts.specs.Bursts.{kind_of, known, slot_bits, field_of, written_burst}
-use Rattle.datagrams.specs.Datagrams.{prefix, prefixed, frame_of, named_type, burst_of, labels_of, read_datagram, label_octets, written_datagram}
+use Rattle.datagrams.specs.Datagrams.{DatagramRead, prefix, prefixed, frame_of, named_type, burst_of, labels_of, read_datagram, label_octets, written_datagram}
 use Rattle.datagrams.specs.DatagramClaims.{Fits, DatagramComesBack}
 use Rattle.bursts.specs.declared.burst.Sync.{Sync}
-use Rattle.datagrams.specs.declared.Datagram.{Datagram}
 use Rattle.datagrams.specs.declared.Labels.{Labels}
 use Rattle.bursts.proofs.DataTypes.{known-lt}
 use Rattle.bursts.proofs.Numbers.{field-read, near_slot}
@@ -69,14 +68,15 @@ module _ (l : Labels) (type : ℕ) (d : List ℕ) (low : type < 16) (same : take
 -- ---- what is read, also with wrong bits
 
 module _ (l : Labels) (colour type : ℕ) (info : List ℕ) (fits : Fits l) (small : colour < 16) (kind : known (kind_of type) ≡ true) where
-  made : Labels → ℕ → ℕ → Datagram
-  made x c t = record { number = 0; labels = x; colour = c; datatype = t; info = info }
+  made : Labels → ℕ → ℕ → List ℕ → DatagramRead
+  made x c t os = record { number = 0; labels = x; colour = c; datatype = t; info = os }
 
   reads : (d : List ℕ) → length d ≡ 53 → take 20 d ≡ label_octets l type → distance (slot_bits (burst_of d)) (slot_word (16 * colour + type)) ≤ 3
       → read_field (field_of (burst_of d)) ≡ record { number = 0; info = info }
       → read_datagram d ≡ record { number = 0; labels = l; colour = colour; datatype = type; info = info }
   unfolding made
   reads d h same near field =
+      let is = sym (field-read (burst_of d) size) ∙ field in
       sym (contents_read d (16 * colour + type)
       (record {
         slotted = record {
@@ -88,9 +88,9 @@ module _ (l : Labels) (colour type : ℕ) (info : List ℕ) (fits : Fits l) (sma
         same = type_back l type d low same fits ∙ sym rest;
         kind = subst (λ (t : ℕ). known (kind_of t) ≡ true) (sym (type_back l type d low same fits)) kind;
       })
-      (record { number = 0; info = info }) (sym field ∙ field-read (burst_of d) size) refl)
-      ∙ ap (λ (x : Labels). made x ((16 * colour + type) / 16) ((16 * colour + type) % 16)) (labels_back l type d low same fits)
-      ∙ ap₂ (made l) quotient rest
+      (ap (λ x. x.number) is))
+      ∙ ap₂ (λ (x : Labels) (os : List ℕ). made x ((16 * colour + type) / 16) ((16 * colour + type) % 16) os) (labels_back l type d low same fits) (ap (λ x. x.info) is)
+      ∙ ap₂ (λ (c t : ℕ). made l c t info) quotient rest
     where
       low : type < 16
       low = known-lt type kind

@@ -2,13 +2,32 @@
 -- Assumes nothing.
 use Rattle.std.proofs.Common.{◌≡◌, ℕ, ◌-◌, ◌/◌, ◌%◌, ◌<◌, Bool, true, false, cond, T, eqb, List, length, get_or, take, drop, sym, refl, ap, ◌∙◌, subst, arith, length-drop, take_all, eq-eqb, ne_eqb, eqb-true}
 use Rattle.foundation.specs.Order.{first_failed}
-use Rattle.codes.specs.SlotWord.{slot_number}
-use Rattle.codes.specs.declared.block_field.BlockField.{BlockField}
+use Rattle.std.specs.Prelude.{Result, Ok, Err}
+use Rattle.foundation.specs.Refusals.{outcome}
+use Rattle.foundation.specs.declared.refusal.Refusal.{Refusal}
+use Rattle.foundation.proofs.Refusals.{ok_zero, ok_same, err_any}
+use Rattle.codes.specs.SlotWord.{Data, slot_number, slot_data, slot_given}
+use Rattle.codes.specs.Field.{field_given}
 use Rattle.foundation.proofs.Tests.{not-true, every_true, all-eq}
-use Rattle.bursts.specs.Bursts.{kind_of, known, slot_data, burst_slot, burst_field, colour_of, type_of}
-use Rattle.datagrams.specs.Datagrams.{prefix, prefixed, frame_of, named_type, burst_of, datagram_number, labels_of, refused_datagram, read_datagram}
-use Rattle.datagrams.specs.DatagramParts.{Slotted, Kinded}
+use Rattle.bursts.specs.Bursts.{kind_of, known, burst_slot, burst_field, colour_of, type_of}
+use Rattle.datagrams.specs.Datagrams.{prefix, prefixed, frame_of, named_type, burst_of, datagram_number, labels_of, refused_datagram, read_datagram, datagram_given}
+use Rattle.datagrams.specs.declared.Datagram.{Datagram}
+use Rattle.datagrams.specs.declared.Labels.{Labels}
 use Rattle.bursts.proofs.Variants.{slot_good}
+use Rattle.bursts.proofs.Numbers.{slot_four}
+
+-- the datagram d passes the first four tests, and its burst has the slot type s
+pub record Slotted (d : List ℕ) (s : ℕ) : Type 0 where
+  pub size : length d ≡ 53
+  pub letters : prefixed d ≡ true
+  pub frame : frame_of d ≡ 2
+  pub slot : burst_slot (burst_of d) ≡ Data s
+
+-- and its data type is the slot type's, 6 or 7
+pub record Kinded (d : List ℕ) (s : ℕ) : Type 0 where
+  pub slotted : Slotted d s
+  pub same : named_type d ≡ s % 16
+  pub kind : known (kind_of (named_type d)) ≡ true
 
 module _ (d : List ℕ) where
   -- the octets from 20 on are the burst
@@ -94,14 +113,41 @@ module _ (d : List ℕ) where
       go n true e = sym (eqb-true n 0 e)
       go n false e = refl
 
-  -- g is what the block field reads as
-  module _ (s : ℕ) (k : Kinded d s) (g : BlockField) (e : g ≡ burst_field (burst_of d)) where
-    field-number : datagram_number d ≡ g.number
-    field-number = number-field s k.slotted k.same k.kind ∙ sym (ap (λ x. x.number) e)
+  -- what is given where the number is that of the slot type or of the block field
 
-    pub contents_refused : (g.number ≡ 0 → ⊥) → refused_datagram g.number ≡ read_datagram d
-    contents_refused z = read-refused g.number z field-number
+  contents : Datagram
+  contents = let r = read_datagram d in record { labels = r.labels; colour = r.colour; datatype = r.datatype; info = r.info }
 
-    pub contents_read : g.number ≡ 0 → record { number = 0; labels = labels_of d; colour = s / 16; datatype = s % 16; info = g.info } ≡ read_datagram d
+  pub slot_refused : length d ≡ 53 → prefixed d ≡ true → frame_of d ≡ 2 → (r : Refusal) → slot_given (burst_slot (burst_of d)) ≡ Err r
+      → Err r ≡ datagram_given (read_datagram d)
+  unfolding slot_given slot_number datagram_given contents
+  slot_refused h p f r e =
+      let b : List ℕ = burst_of d in
+      let size : length b ≡ 33 = omega (arith, length-drop 20 d) in
+      let n = slot_four b r size e in
+      sym (ap (λ (n : ℕ). outcome n contents) (read_number ∙ number-slot h p f (ap slot_good n) ∙ sym (ap slot_number n))
+      ∙ err_any (slot_number (burst_slot b)) (slot_data (burst_slot b)) contents r e)
+
+  module _ (s : ℕ) (k : Kinded d s) where
+    field-number : datagram_number d ≡ (burst_field (burst_of d)).number
+    field-number = number-field s k.slotted k.same k.kind
+
+    pub field_refused : (r : Refusal) → field_given (burst_field (burst_of d)) ≡ Err r → Err r ≡ datagram_given (read_datagram d)
+    unfolding field_given datagram_given contents
+    field_refused r e =
+        let f = burst_field (burst_of d) in
+        sym (ap (λ (n : ℕ). outcome n contents) (read_number ∙ field-number) ∙ err_any f.number f.info contents r e)
+
+    pub contents_read : (burst_field (burst_of d)).number ≡ 0
+        → record { number = 0; labels = labels_of d; colour = s / 16; datatype = s % 16; info = (burst_field (burst_of d)).info } ≡ read_datagram d
     unfolding read_datagram slot_data
-    contents_read z = rw (field-number, z, k.slotted.slot, k.same, e)
+    contents_read z = rw (field-number, z, k.slotted.slot, k.same)
+
+    pub field_good : (l : Labels) → l ≡ labels_of d → (os : List ℕ) → field_given (burst_field (burst_of d)) ≡ Ok os
+        → Ok (record { labels = l; colour = s / 16; datatype = named_type d; info = os }) ≡ datagram_given (read_datagram d)
+    unfolding field_given datagram_given outcome
+    field_good l same os e =
+        let f = burst_field (burst_of d) in
+        let made : Labels → ℕ → List ℕ → Result Datagram Refusal = λ x t i. Ok (record { labels = x; colour = s / 16; datatype = t; info = i }) in
+        ap (λ (x : Labels). made x (named_type d) os) same ∙ ap (λ (t : ℕ). made (labels_of d) t os) k.same
+        ∙ sym (ap (made (labels_of d) (s % 16)) (ok_same f.number f.info os e)) ∙ ap datagram_given (contents_read (ok_zero f.number f.info os e))

@@ -1,27 +1,28 @@
 -- Each number of reading and writing a datagram is given exactly if its row of the table is true.
 -- Assumes nothing.
-use Rattle.std.proofs.Common.{◌≡◌, ℕ, ◌%◌, ◌^◌, ◌<◌, ◌≤◌, Bool, true, false, ltb, ◌≢◌, ◌⊎◌, ◌↔◌, List, [], ◌∷◌, length, get_or, take, sym, refl, ap, ◌∙◌, subst, inl, inr, arith, lit≤, length-drop, length-take-le, get_or-take, ext_get_or, lt-ltb}
+use Rattle.std.proofs.Common.{◌≡◌, ℕ, ◌%◌, ◌^◌, ◌<◌, ◌≤◌, Bool, true, false, eqb, ltb, ◌≢◌, ◌⊎◌, ◌↔◌, List, [], ◌∷◌, length, get_or, take, drop, ◌++◌, sym, refl, ap, ◌∙◌, subst, inl, inr, arith, lit≤, length-drop, length-take-le, get_or-take, ext_get_or, lt-ltb}
+use Rattle.std.specs.Cmp.Lexicographic.{pointwise}
+use Rattle.std.proofs.lemmas.List.{take-append-drop}
+use Rattle.std.proofs.lemmas.Bool.Decides.{Decides-eqb}
+use Rattle.std.proofs.lemmas.Slice.Eq.{starts_is}
 use native.Mathlib.Decide.{ℕ_discrete, dec_lt}
 use Rattle.foundation.specs.Order.{first_failed}
-use Rattle.codes.specs.SlotWord.{read_slot_type, slot_number}
+use Rattle.codes.specs.SlotWord.{SlotType, Data, NoCodeword, TooWide, read_slot_type, slot_number}
 use Rattle.codes.specs.Field.{field_number, read_field}
-use Rattle.codes.specs.declared.slot_type.SlotType.{SlotType}
-use Rattle.codes.specs.declared.slot_type.SlotType.TheVariants.{Data, NoCodeword, TooWide}
 use Rattle.codes.proofs.SlotReading.{reads_near}
 use Rattle.foundation.proofs.Tests.{choose, cond-lt, cond_ge, not-true, exactly}
 use Rattle.bursts.specs.Bursts.{kind_of, known, slot_bits, field_of, burst_part_tests, written_burst}
 use Rattle.bursts.specs.BurstClaims.{Near}
 use Rattle.datagrams.specs.Datagrams.{prefix, prefixed, frame_of, named_type, burst_of, datagram_number, read_datagram, written_datagram, label_tests, write_number, write_datagram}
 use Rattle.datagrams.specs.DatagramClaims.{Fits, Unprefixed, OtherFrame, Framed, NoSlotType, WrongType, FieldOf, Outside}
-use Rattle.datagrams.specs.DatagramParts.{Slotted}
 use Rattle.bursts.specs.declared.burst.Sync.{Sync}
 use Rattle.datagrams.specs.declared.Labels.{Labels}
 use Rattle.bursts.proofs.Variants.{slot_good}
 use Rattle.bursts.proofs.Numbers.{slot_read, near_slot, field-read, write_good}
 use Rattle.bursts.proofs.ReadingBack.{field-length}
 use Rattle.bursts.proofs.Rows.{FieldNumber, field-numbers}
-use Rattle.datagrams.proofs.DatagramNumbers.{letters-same, letters-at, number_size, number-prefix, number-frame, number-slot, number_differs, number_other, number-field, read_number}
-use Rattle.datagrams.proofs.DatagramWriting.{call_decides, write_joined}
+use Rattle.datagrams.proofs.DatagramNumbers.{Slotted, letters-same, letters-at, number_size, number-prefix, number-frame, number-slot, number_differs, number_other, number-field, read_number}
+use Rattle.datagrams.proofs.DatagramWriting.{fits_all, write_joined}
 
 module _ (d : List ℕ) where
   -- the prefix as four octets
@@ -35,6 +36,15 @@ module _ (d : List ℕ) where
 
   take-letters : take 4 d ≡ prefix → prefixed d ≡ true
   take-letters e = letters-same d (λ i h. sym (get_or-take 4 d i 0 h) ∙ ap (λ (os : List ℕ). get_or os i 0) e)
+
+  -- the slice's own test of the prefix is that of the letters
+  pub prefix_tested : length d ≡ 53 → (r : Bool) → r ≡ pointwise eqb prefix (take 4 d) → r ≡ prefixed d
+  prefix_tested h r e = go r (starts_is Decides-eqb d prefix r e)
+    where
+      go : (r : Bool) → (r ≡ true → d ≡ prefix ++ drop 4 d) × ((rest : List ℕ) → d ≡ prefix ++ rest → r ≡ true) → r ≡ prefixed d
+      go true s = sym (take-letters (ap (take 4) (s.0 refl)))
+      go false s =
+          sym (not-true (prefixed d) (λ p. let q = s.1 (drop 4 d) (sym (take-append-drop 4 d) ∙ ap (λ (os : List ℕ). os ++ drop 4 d) (letters-take h p)) in let z : ◌≡◌ {A = ℕ} 0 1 = cc in omega arith))
 
   burst-size : length d ≡ 53 → length (burst_of d) ≡ 33
   burst-size h = omega (arith, length-drop 20 d)
@@ -197,5 +207,5 @@ module _ (l : Labels) (colour type : ℕ) (info : List ℕ) (sync : Sync) where
       → write_datagram l colour type info sync ≡ record { number = 0; octets = written_datagram l colour type info sync }
   unfolding written_datagram
   writes fits small kind =
-      sym (write_joined l colour type info sync (sym (call_decides l (lt-ltb l.source.0 (2 ^ 24) fits.source) (lt-ltb l.target.0 (2 ^ 24) fits.target) fits.timeslot) ∙ lt-ltb l.call 2 fits.call)
+      sym (write_joined l colour type info sync (fits_all l ∙ rw (lt-ltb l.source.0 (2 ^ 24) fits.source, lt-ltb l.target.0 (2 ^ 24) fits.target, lt-ltb l.timeslot 2 fits.timeslot, lt-ltb l.call 2 fits.call))
       (record { number = 0; octets = written_burst colour type info sync }) (write_good colour type info sync small kind) refl (written_datagram l colour type info sync) refl)

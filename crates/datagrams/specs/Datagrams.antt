@@ -1,14 +1,15 @@
 -- A datagram: 53 octets. The four letters DMRD, sequence counter (1), source (3), target (3), repeater (4), one octet of timeslot (top
 -- bit), call type, frame type (2 bits) and data type (4 bits), then stream (4) and burst (33). Numbers are most significant octet first.
 -- Assumes nothing.
-use Rattle.std.specs.Prelude.{ℕ, ◌+◌, ◌*◌, ◌/◌, ◌%◌, ◌^◌, Bool, cond, List, [], ◌∷◌, ◌++◌, length, drop, replicate, ◌==◌, nat_eq, nat_lt, slice_index}
+use Rattle.std.specs.Prelude.{Result, ℕ, ◌+◌, ◌*◌, ◌/◌, ◌%◌, ◌^◌, Bool, cond, List, [], ◌∷◌, ◌++◌, length, drop, replicate, ◌==◌, nat_eq, nat_lt, slice_index}
 use Rattle.addresses.specs.Octets.{address_at, three_octets, four_octets, number_at}
 use Rattle.foundation.specs.Order.{every, first_failed}
+use Rattle.foundation.specs.Refusals.{outcome}
+use Rattle.foundation.specs.declared.refusal.Refusal.{Refusal}
 use Rattle.codes.specs.SlotWord.{slot_number}
 use Rattle.bursts.specs.Bursts.{kind_of, known, burst_slot, burst_field, colour_of, type_of, written_burst, burst_part_tests}
 use Rattle.bursts.specs.declared.burst.Sync.{Sync}
 use Rattle.datagrams.specs.declared.Datagram.{Datagram}
-use Rattle.datagrams.specs.declared.DatagramOctets.{DatagramOctets}
 use Rattle.datagrams.specs.declared.Labels.{Labels}
 
 -- DMRD
@@ -58,15 +59,26 @@ unfoldable pub no_labels : Labels
 no_labels =
     record { sequence = 0; source = record { 0 = 0 }; target = record { 0 = 0 }; repeater = record { 0 = 0 }; timeslot = 0; call = 0; stream = 0 }
 
--- zeros beside the number of a refusal
-unfoldable pub refused_datagram : ℕ → Datagram
+-- what is read; zeros beside the number of a refusal
+pub record DatagramRead : Type 0 where
+  pub number : ℕ
+  pub labels : Labels
+  pub colour : ℕ
+  pub datatype : ℕ
+  pub info : List ℕ
+
+unfoldable pub refused_datagram : ℕ → DatagramRead
 refused_datagram n = record { number = n; labels = no_labels; colour = 0; datatype = 0; info = replicate 12 0 }
 
-unfoldable pub read_datagram : List ℕ → Datagram
+unfoldable pub read_datagram : List ℕ → DatagramRead
 read_datagram d =
     cond (datagram_number d == 0)
     (record { number = 0; labels = labels_of d; colour = colour_of (burst_of d); datatype = named_type d; info = (burst_field (burst_of d)).info })
     (refused_datagram (datagram_number d))
+
+-- what reading gives: the contents where the number is 0, else the refusal
+unfoldable pub datagram_given : DatagramRead → Result Datagram Refusal
+datagram_given d = outcome d.number (record { labels = d.labels; colour = d.colour; datatype = d.datatype; info = d.info })
 
 -- ---- writing
 
@@ -88,8 +100,17 @@ label_tests l =
 unfoldable pub write_number : Labels → ℕ → ℕ → ℕ
 write_number l colour type = first_failed (label_tests l ++ burst_part_tests colour type)
 
+-- what the writer answers; zeros beside the number of a refusal
+pub record DatagramOctets : Type 0 where
+  pub number : ℕ
+  pub octets : List ℕ
+
 unfoldable pub write_datagram : Labels → ℕ → ℕ → List ℕ → Sync → DatagramOctets
 write_datagram l colour type info sync = record {
   number = write_number l colour type;
   octets = cond (write_number l colour type == 0) (written_datagram l colour type info sync) (replicate 53 0);
 }
+
+-- what the writer gives: the octets where the number is 0, else the refusal
+unfoldable pub datagram_octets_given : DatagramOctets → Result (List ℕ) Refusal
+datagram_octets_given w = outcome w.number w.octets

@@ -1,14 +1,14 @@
 // A datagram of 53 octets that carries a burst.
 #![tactic(auto)]
 
-ghost use Rattle.std.specs.Prelude.{◌≡◌, ◌<◌, true, ◌++◌, length};
-ghost use Rattle.datagrams.specs.Datagrams.{next_sequence, prefixed, labels_of, refused_datagram, read_datagram, label_octets, write_datagram};
+ghost use Rattle.std.specs.Prelude.{◌≡◌, ◌<◌, true, ◌++◌, length, IfOk};
+ghost use Rattle.datagrams.specs.Datagrams.{next_sequence, prefixed, labels_of, read_datagram, datagram_given, label_octets, write_datagram, datagram_octets_given};
 ghost use Rattle.datagrams.specs.DatagramClaims.{DatagramComesBack};
-ghost use Rattle.datagrams.specs.DatagramParts.{Slotted, Kinded, labels_fit};
+ghost use Rattle.datagrams.specs.DatagramParts.{labels_fit};
 
 use addresses::{RadioAddress, RepeaterNumber};
 use bursts::burst::{Kind, Sync};
-use codes::slot_type::SlotType;
+use foundation::refusal::Refusal;
 
 // What stands before the burst, but for the data type.
 #[derive(Clone, Copy)]
@@ -22,28 +22,20 @@ pub struct Labels {
     pub stream: u32,
 }
 
-// What is read: number 0 and all fields, or the number of the refusal and zeros.
+// What is read.
 #[derive(Clone, Copy)]
 pub struct Datagram {
-    pub number: u8,
     pub labels: Labels,
     pub colour: u8,
     pub datatype: u8,
     pub info: [u8; 12],
 }
 
-// What is written: number 0 and the octets, or the number of the refusal and zeros.
-#[derive(Clone, Copy)]
-pub struct DatagramOctets {
-    pub number: u8,
-    pub octets: [u8; 53],
-}
-
 // The sequence counter of the next datagram of a run.
 pub fn next_sequence(sequence: u8) -> u8
     ensures { result ≡ next_sequence sequence }
 {
-    std::num::wrapping_add_u8(sequence, 1)
+    sequence.wrapping_add(1)
 }
 
 // ---- reading
@@ -53,34 +45,7 @@ fn has_prefix(d: &[u8]) -> bool
     requires { length d.now ≡ 53 }
     ensures { result ≡ prefixed d.now }
 {
-    let letters = b"DMRD";
-    for i in 0..4 {
-        if d[i] != letters[i] {
-            return false;
-        }
-    }
-    true
-}
-
-// A refusal of this number.
-fn refused(number: u8) -> Datagram
-    ensures { result ≡ refused_datagram number }
-{
-    Datagram {
-        number,
-        labels: Labels {
-            sequence: 0,
-            source: RadioAddress(0),
-            target: RadioAddress(0),
-            repeater: RepeaterNumber(0),
-            timeslot: 0,
-            call: 0,
-            stream: 0,
-        },
-        colour: 0,
-        datatype: 0,
-        info: [0u8; 12],
-    }
+    d.starts_with(b"DMRD")
 }
 
 // What stands before the burst.
@@ -99,57 +64,31 @@ fn labels_of(d: &[u8]) -> Labels
     }
 }
 
-// What a datagram reads as whose data type is that of its slot type, 6 or 7.
-fn contents(d: &[u8], slot: u8) -> Datagram
-    requires { Kinded d.now slot }
-    ensures { result ≡ read_datagram d.now }
-{
-    let field = bursts::burst::field(&d[20..]);
-    if field.number != 0 {
-        return refused(field.number);
-    }
-    let info = field.info;
-    Datagram {
-        number: 0,
-        labels: labels_of(d),
-        colour: slot / 16,
-        datatype: slot % 16,
-        info,
-    }
-}
-
-// What a datagram reads as whose burst has this slot type.
-fn slotted(d: &[u8], slot: u8) -> Datagram
-    requires { Slotted d.now slot }
-    ensures { result ≡ read_datagram d.now }
-{
-    let datatype = d[15] % 16;
-    if datatype != slot % 16 {
-        return refused(5);
-    }
-    match bursts::burst::kind_of(datatype) {
-        Kind::Other => refused(5),
-        _ => contents(d, slot),
-    }
-}
-
 // Reads a datagram.
-pub fn read(datagram: &[u8]) -> Datagram
-    ensures { result ≡ read_datagram datagram.now }
+pub fn read(datagram: &[u8]) -> Result<Datagram, Refusal>
+    ensures { result ≡ datagram_given (read_datagram datagram.now) }
 {
     if datagram.len() != 53 {
-        return refused(1);
+        return Err(Refusal::Size);
     }
     if !has_prefix(datagram) {
-        return refused(2);
+        return Err(Refusal::Prefix);
     }
     if datagram[15] / 16 % 4 != 2 {
-        return refused(3);
+        return Err(Refusal::FrameType);
     }
-    match bursts::burst::slot_type(&datagram[20..]) {
-        SlotType::Data(slot) => slotted(datagram, slot),
-        _ => refused(4),
+    let slot = bursts::burst::slot_type(&datagram[20..])?;
+    let datatype = datagram[15] % 16;
+    if datatype != slot % 16 || Kind::from(datatype) == Kind::Other {
+        return Err(Refusal::DataType);
     }
+    let info = bursts::burst::field(&datagram[20..])?;
+    Ok(Datagram {
+        labels: labels_of(datagram),
+        colour: slot / 16,
+        datatype,
+        info,
+    })
 }
 
 // ---- writing
@@ -158,16 +97,10 @@ pub fn read(datagram: &[u8]) -> Datagram
 fn labels_fit(labels: Labels) -> bool
     ensures { result ≡ labels_fit labels }
 {
-    if !addresses::fits(labels.source) {
-        return false;
-    }
-    if !addresses::fits(labels.target) {
-        return false;
-    }
-    if 2 <= labels.timeslot {
-        return false;
-    }
-    labels.call < 2
+    addresses::fits(labels.source)
+        && addresses::fits(labels.target)
+        && labels.timeslot < 2
+        && labels.call < 2
 }
 
 // The 20 octets before the burst.
@@ -217,25 +150,20 @@ fn joined(labels: &[u8], burst: &[u8]) -> [u8; 53]
 }
 
 // Writes a datagram with its burst. With wrong bits in the burst that the codes put right it comes back.
-pub fn write(labels: Labels, colour: u8, datatype: u8, info: [u8; 12], sync: Sync) -> DatagramOctets
-    ensures { (result ≡ write_datagram labels colour datatype info sync) × (result.number ≡ 0 → DatagramComesBack labels colour datatype info result.octets) }
+pub fn write(
+    labels: Labels,
+    colour: u8,
+    datatype: u8,
+    info: [u8; 12],
+    sync: Sync,
+) -> Result<[u8; 53], Refusal>
+    ensures gives { result ≡ datagram_octets_given (write_datagram labels colour datatype info sync) }
+    ensures comes_back { IfOk result (λ octets. DatagramComesBack labels colour datatype info octets) }
 {
     if !labels_fit(labels) {
-        return DatagramOctets {
-            number: 16,
-            octets: [0u8; 53],
-        };
+        return Err(Refusal::Unwritable);
     }
-    let burst = bursts::burst::write(colour, datatype, info, sync);
-    if burst.number != 0 {
-        return DatagramOctets {
-            number: burst.number,
-            octets: [0u8; 53],
-        };
-    }
+    let burst = bursts::burst::write(colour, datatype, info, sync)?;
     let head = label_octets(labels, datatype);
-    DatagramOctets {
-        number: 0,
-        octets: joined(&head, &burst.octets),
-    }
+    Ok(joined(&head, &burst))
 }

@@ -14,9 +14,13 @@ use Rattle.foundation.specs.Order.{first_failed, all}
 use Rattle.bursts.specs.Bursts.{known}
 use Rattle.bursts.specs.declared.burst.Kind.{Kind}
 use Rattle.bursts.specs.declared.burst.Kind.TheVariants.{Header, Block, Other}
-use Rattle.reception.specs.Reception.{arrival_of}
+use Rattle.std.specs.Prelude.{Ok, Err}
+use Rattle.foundation.specs.Refusals.{refusal_number}
+use Rattle.foundation.specs.declared.refusal.Refusal.{Refusal}
+use Rattle.reception.specs.Reception.{arrival_of, arrival_given}
 use Rattle.reception.specs.declared.Arrival.{Arrival}
 use Rattle.reception.proofs.Claims.{brings}
+use Rattle.reception.proofs.Arriving.{untaken-number, taken-number, brought, no_kind}
 use Rattle.transactions.specs.Answers.{refused, number_of}
 use Rattle.foundation.proofs.Order.{itself}
 use Rattle.foundation.proofs.Tests.{never}
@@ -212,14 +216,28 @@ event-kind Header os e = (lit< tt, λ z. absurd (omega arith))
 event-kind Block os e = (lit< tt, λ z. absurd (omega arith))
 event-kind Other os e = never e refl
 
-module _ (d : List ℕ) (x : Arrival) (is : x ≡ arrival_of d) (k : ℕ) (e : k ≡ kind_number x.kind) where
-  pub brought_number : number_before (a_datagram d) ≡ x.number
+-- a datagram that brings x
+module _ (d : List ℕ) (x : Arrival) (is : arrival_given (arrival_of d) ≡ Ok x) (k : ℕ) (e : k ≡ kind_number x.kind) where
+  pub brought_number : number_before (a_datagram d) ≡ 0
   unfolding arrival_of number_before
-  brought_number = rw is
+  brought_number = taken-number d x is
 
   pub brought_record : record_asked (a_datagram d) ≡ record_of k x.octets
   unfolding record_asked
-  brought_record = rw (e, kind_is x.kind x.octets, ← is)
+  brought_record = ap (λ (y : Arrival). carried_by y.kind y.octets) (brought d x is) ∙ rw (e, kind_is x.kind x.octets)
 
-  pub brought_event : x.number ≡ 0 → AnEvent k x.octets
-  brought_event z = rw e (event-kind x.kind x.octets (ap (λ (y : Arrival). known y.kind) is ∙ brings d (sym (ap (λ (y : Arrival). y.number) is) ∙ z)))
+  pub brought_event : AnEvent k x.octets
+  brought_event = rw e (event-kind x.kind x.octets (sym (ap (λ (y : Arrival). known y.kind) (brought d x is)) ∙ brings d (taken-number d x is)))
+
+-- a datagram that is refused
+module _ (d : List ℕ) (r : Refusal) (is : arrival_given (arrival_of d) ≡ Err r) where
+  pub untaken_number : number_before (a_datagram d) ≡ refusal_number r
+  unfolding arrival_of number_before
+  untaken_number = sym (untaken-number d r is).0
+
+  pub untaken_zero : refusal_number r ≡ 0 → ⊥
+  untaken_zero z = let n = untaken-number d r is in n.1 (sym n.0 ∙ z)
+
+  pub untaken_record : record_asked (a_datagram d) ≡ record_of 255 []
+  unfolding record_asked carried_by
+  untaken_record = ap (λ (k : Kind). carried_by k (arrival_of d).octets) (no_kind d (untaken-number d r is).1) ∙ sym (none_is [])

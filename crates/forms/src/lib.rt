@@ -178,9 +178,8 @@ pub fn on_datagram(form: &mut [u8], s0: u8, s1: u8, datagram: &[u8], line: &mut 
         × (form.new ≡ form_after form.old s0 s1 line.old (a_datagram datagram.now))
         × (line.new ≡ line_after form.old line.old (a_datagram datagram.now)) }
 {
-    let brought = reception::arrival_of(datagram);
-    let number = brought.number;
-    let kind = brought.kind;
-    let octets = brought.octets;
-    on_record(form, s0, s1, number, record_kind(kind), &octets, line)
+    match reception::arrival_of(datagram) {
+        Ok(a) => on_record(form, s0, s1, 0, record_kind(a.kind), &a.octets, line),
+        Err(refusal) => on_record(form, s0, s1, refusal.number(), NONE, b"", line),
+    }
 }

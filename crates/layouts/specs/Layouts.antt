@@ -2,10 +2,10 @@
 -- Assumes nothing.
 use Rattle.std.specs.Prelude.{cond, List, [], ◌∷◌, ◌++◌, ℕ, eqb, get_or}
 use Rattle.addresses.specs.Octets.{address_at, three_octets, four_octets, number_at}
-use Rattle.bursts.specs.declared.burst.Burst.{Burst}
+use Rattle.bursts.specs.Bursts.{BurstRead}
 use Rattle.bursts.specs.declared.burst.Sync.{Sync}
 use Rattle.bursts.specs.declared.burst.Sync.TheVariants.{Base, Mobile}
-use Rattle.datagrams.specs.declared.Datagram.{Datagram}
+use Rattle.datagrams.specs.Datagrams.{DatagramRead}
 use Rattle.datagrams.specs.declared.Labels.{Labels}
 use Rattle.packets.specs.Headers.{header_for}
 use Rattle.packets.specs.declared.block.Block.{Block}
@@ -84,7 +84,7 @@ response_octets a =
     a.class ∷ a.kind ∷ a.status ∷ a.sap ∷ three_octets a.destination.0 ++ three_octets a.source.0 ++ a.flags
 
 -- colour code, data type, 12 of information
-unfoldable pub burst_octets : Burst → List ℕ
+unfoldable pub burst_octets : BurstRead → List ℕ
 burst_octets b = b.colour ∷ b.datatype ∷ b.info
 
 -- the 17 octets of the labels, colour code, data type, 12 of information
@@ -93,5 +93,5 @@ label_layout l =
     l.sequence ∷ three_octets l.source.0 ++ three_octets l.target.0 ++ four_octets l.repeater.0
     ++ l.timeslot ∷ l.call ∷ four_octets l.stream
 
-unfoldable pub datagram_octets : Datagram → List ℕ
+unfoldable pub datagram_octets : DatagramRead → List ℕ
 datagram_octets d = label_layout d.labels ++ d.colour ∷ d.datatype ∷ d.info

@@ -5,6 +5,7 @@ use addresses::{RadioAddress, RepeaterNumber};
 use bursts::burst;
 use bursts::burst::Sync;
 use datagrams::Labels;
+use foundation::refusal::Refusal;
 use report::Tally;
 use std::io::Write;
 
@@ -22,32 +23,32 @@ fn damaged() -> [u8; 33] {
     *b"\x06\x49\x2f\xab\xbd\x37\x14\x4b\x2d\xd3\x0a\x49\xe5\x9d\xff\x57\xd7\x5d\xf5\xd3\xba\xdc\x6b\xb8\xc1\x66\x1e\x06\x18\x41\x88\xc7\xcb"
 }
 
+// The number of what is given, 0 where it isn't refused.
+fn number_of<T: Drop>(given: Result<T, Refusal>) -> u32 {
+    match given {
+        Ok(_) => 0,
+        Err(refusal) => report::wide(refusal.number()),
+    }
+}
+
 fn written<W: Write>(out: &mut W, t: Tally, text: &[u8], sync: Sync, expected: &[u8]) -> Tally
     ensures { result.cases ≡ (t.cases + 1) % 2 ^ 32 }
 {
-    let octets = burst::write(1, 6, info(), sync).octets;
+    let octets = burst::write(1, 6, info(), sync).unwrap_or([0u8; 33]);
     report::octets(out, t, b"writing a burst, ", text, &octets, expected)
 }
 
 fn not_written<W: Write>(out: &mut W, t: Tally, text: &[u8], colour: u8, datatype: u8) -> Tally
     ensures { result.cases ≡ (t.cases + 1) % 2 ^ 32 }
 {
-    let number = burst::write(colour, datatype, info(), Sync::Base).number;
-    report::number(
-        out,
-        t,
-        b"writing a burst, ",
-        text,
-        2,
-        report::wide(number),
-        16,
-    )
+    let number = number_of(burst::write(colour, datatype, info(), Sync::Base));
+    report::number(out, t, b"writing a burst, ", text, 2, number, 16)
 }
 
 fn read<W: Write>(out: &mut W, t: Tally, text: &[u8], octets: &[u8]) -> Tally
     ensures { result.cases ≡ (t.cases + 1) % 2 ^ 32 }
 {
-    let found = burst::read(octets).info;
+    let found = burst::read(octets).map_or([0u8; 12], |b| b.info);
     report::octets(out, t, b"reading a burst, ", text, &found, &info())
 }
 
@@ -60,7 +61,7 @@ fn refused<W: Write>(out: &mut W, t: Tally, text: &[u8], octets: &[u8], expected
         b"reading a burst, ",
         text,
         1,
-        report::wide(burst::read(octets).number),
+        number_of(burst::read(octets)),
         expected,
     )
 }
@@ -116,7 +117,7 @@ fn carried<W: Write>(out: &mut W, t: Tally, text: &[u8], octets: &[u8], expected
         b"reading a datagram, ",
         text,
         1,
-        report::wide(datagrams::read(octets).number),
+        number_of(datagrams::read(octets)),
         expected,
     )
 }
@@ -129,7 +130,7 @@ fn datagram_octets() -> [u8; 53] {
 fn written_datagram<W: Write>(out: &mut W, t: Tally) -> Tally
     ensures { result.cases ≡ (t.cases + 1) % 2 ^ 32 }
 {
-    let octets = datagrams::write(labels(), 1, 6, info(), Sync::Base).octets;
+    let octets = datagrams::write(labels(), 1, 6, info(), Sync::Base).unwrap_or([0u8; 53]);
     report::octets(
         out,
         t,
@@ -145,7 +146,8 @@ fn read_datagram<W: Write>(out: &mut W, mut t: Tally) -> Tally
     ensures { result.cases ≡ (t.cases + 3) % 2 ^ 32 }
 {
     let found = datagrams::read(&datagram_octets());
-    let got = found.info;
+    let got = found.map_or([0u8; 12], |d| d.info);
+    let stream = found.map_or(0, |d| d.labels.stream);
     t = report::octets(
         out,
         t,
@@ -160,7 +162,7 @@ fn read_datagram<W: Write>(out: &mut W, mut t: Tally) -> Tally
         b"reading this datagram, ",
         b"stream",
         8,
-        found.labels.stream,
+        stream,
         0xCAFE0001,
     );
     report::number(

@@ -1,7 +1,9 @@
 -- What a datagram is to one receiver, what it answers and leaves.
 -- Assumes nothing.
-use Rattle.std.specs.Prelude.{cond, List, [], ◌∷◌, ℕ, eqb, length}
+use Rattle.std.specs.Prelude.{Result, cond, List, [], ◌∷◌, ℕ, eqb, length}
 use Rattle.foundation.specs.Order.{first_failed}
+use Rattle.foundation.specs.Refusals.{outcome}
+use Rattle.foundation.specs.declared.refusal.Refusal.{Refusal}
 use Rattle.bursts.specs.Bursts.{kind_of}
 use Rattle.bursts.specs.declared.burst.Kind.{Kind}
 use Rattle.bursts.specs.declared.burst.Kind.TheVariants.{Header, Block, Other}
@@ -18,8 +20,17 @@ use Rattle.reception.specs.declared.Answer.TheVariants.{Refused, Confirmed}
 use Rattle.reception.specs.declared.Received.{Received}
 
 -- what a datagram brings: the number of its refusal, 0 for none; the kind by its data type; the octets that it carries
-unfoldable pub arrival_of : List ℕ → Arrival
+pub record Brought : Type 0 where
+  pub number : ℕ
+  pub kind : Kind
+  pub octets : List ℕ
+
+unfoldable pub arrival_of : List ℕ → Brought
 arrival_of d = record { number = datagram_number d; kind = kind_of (read_datagram d).datatype; octets = (read_datagram d).info }
+
+-- what is given: kind and octets where the number is 0, else the refusal
+unfoldable pub arrival_given : Brought → Result Arrival Refusal
+arrival_given b = outcome b.number (record { kind = b.kind; octets = b.octets })
 
 -- what is answered, in document 01's numbers and values
 unfoldable pub said : Answer → List ℕ → Said

@@ -2,19 +2,19 @@
 #![tactic(auto)]
 
 ghost use Rattle.std.specs.Prelude.{◌≡◌};
-ghost use Rattle.reception.specs.Reception.{arrival_of, with_answer, by_receiver, on_datagram};
+ghost use Rattle.foundation.specs.Refusals.{refusal_number};
+ghost use Rattle.reception.specs.Reception.{arrival_of, arrival_given, with_answer, by_receiver, on_datagram};
 ghost use Rattle.reception.specs.Claims.{Arrives};
 ghost use Rattle.reception.specs.declared.Answer.TheVariants.{Refused};
 
 use bursts::burst::Kind;
+use foundation::refusal::Refusal;
 use receiver::event::Step;
 use receiver_state::{Receiver, STORE};
 
-// What a datagram brings: number 0, the kind of its burst and the twelve octets that it carries; or the number of the refusal, no kind
-// and zeros.
-#[derive(Clone, Copy)]
+// What a datagram brings: the kind of its burst and the twelve octets that it carries.
+#[derive(Clone, Copy, Debug, PartialEq, Eq)]
 pub struct Arrival {
-    pub number: u8,
     pub kind: Kind,
     pub octets: [u8; 12],
 }
@@ -34,24 +34,23 @@ pub struct Received {
 }
 
 // What a datagram brings.
-pub fn arrival_of(datagram: &[u8]) -> Arrival
-    ensures { result ≡ arrival_of datagram.now }
+pub fn arrival_of(datagram: &[u8]) -> Result<Arrival, Refusal>
+    ensures { result ≡ arrival_given (arrival_of datagram.now) }
 {
-    let d = datagrams::read(datagram);
+    let d = datagrams::read(datagram)?;
     let octets = d.info;
-    Arrival {
-        number: d.number,
-        kind: bursts::burst::kind_of(d.datatype),
+    Ok(Arrival {
+        kind: Kind::from(d.datatype),
         octets,
-    }
+    })
 }
 
-fn refused(rx: Receiver, number: u8) -> Received
-    ensures { result ≡ with_answer rx (Refused number) }
+fn refused(rx: Receiver, refusal: Refusal) -> Received
+    ensures { result ≡ with_answer rx (Refused (refusal_number refusal)) }
 {
     Received {
         receiver: rx,
-        answer: Answer::Refused(number),
+        answer: Answer::Refused(refusal.number()),
     }
 }
 
@@ -59,11 +58,9 @@ fn refused(rx: Receiver, number: u8) -> Received
 fn by_receiver(step: Step) -> Received
     ensures { result ≡ by_receiver step }
 {
-    let receiver = step.receiver;
-    let answer = step.answer;
     Received {
-        receiver,
-        answer: Answer::Confirmed(answer),
+        receiver: step.receiver,
+        answer: Answer::Confirmed(step.answer),
     }
 }
 
@@ -73,21 +70,15 @@ pub fn on_datagram(rx: Receiver, store: &mut [u8], datagram: &[u8]) -> Received
         × (store.new ≡ (on_datagram rx store.old datagram.now).store)
         × Arrives rx store.old datagram.now result store.new }
 {
-    if !receiver_state::is_good(rx) {
-        return refused(rx, 1);
+    if !receiver_state::is_good(rx) || store.len() != STORE {
+        return refused(rx, Refusal::Size);
     }
-    if store.len() != STORE {
-        return refused(rx, 1);
-    }
-    let a = arrival_of(datagram);
-    if a.number != 0 {
-        return refused(rx, a.number);
-    }
-    let octets = a.octets;
-    let kind = a.kind;
-    match kind {
-        Kind::Header => by_receiver(receiver::event::on_header(rx, &octets)),
-        Kind::Block => by_receiver(receiver::event::on_block(rx, store, &octets)),
-        Kind::Other => refused(rx, 5),
+    match arrival_of(datagram) {
+        Err(refusal) => refused(rx, refusal),
+        Ok(a) => match a.kind {
+            Kind::Header => by_receiver(receiver::event::on_header(rx, &a.octets)),
+            Kind::Block => by_receiver(receiver::event::on_block(rx, store, &a.octets)),
+            Kind::Other => refused(rx, Refusal::DataType),
+        },
     }
 }

@@ -51,7 +51,10 @@ fn changed(mut field: [u8; 25], p: u8) -> [u8; 25]
 }
 
 fn number_of(field: &[u8]) -> u32 {
-    report::wide(block_field::read(field).number)
+    match block_field::read(field) {
+        Ok(_) => 0,
+        Err(refusal) => report::wide(refusal.number()),
+    }
 }
 
 // The bits of a field each of which, changed alone, makes it read as number 7.
@@ -113,13 +116,10 @@ fn written<W: Write>(out: &mut W, t: Tally, text: &[u8], info: [u8; 12], expecte
 fn read<W: Write>(out: &mut W, t: Tally, text: &[u8], field: &[u8], expected: &[u8]) -> Tally
     ensures { result.cases ≡ (t.cases + 1) % 2 ^ 32 }
 {
-    let found = block_field::read(field);
-    if found.number != 0 {
-        let number = [found.number];
-        return report::octets(out, t, b"reading ", text, &number, expected);
+    match block_field::read(field) {
+        Ok(info) => report::octets(out, t, b"reading ", text, &info, expected),
+        Err(refusal) => report::octets(out, t, b"reading ", text, &[refusal.number()], expected),
     }
-    let info = found.info;
-    report::octets(out, t, b"reading ", text, &info, expected)
 }
 
 fn refused<W: Write>(out: &mut W, t: Tally, text: &[u8], field: &[u8], expected: u32) -> Tally

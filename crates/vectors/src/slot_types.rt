@@ -2,16 +2,14 @@
 ghost use Rattle.std.specs.Prelude.{◌≡◌, ◌+◌, ◌%◌, ◌^◌};
 
 use codes::slot_type;
-use codes::slot_type::SlotType;
 use report::Tally;
 use std::io::Write;
 
 // What a word reads as: its octet, or 256 times the number of its refusal.
 fn reading(word: u32) -> u32 {
     match slot_type::read(word) {
-        SlotType::Data(octet) => report::wide(octet),
-        SlotType::NoCodeword => 0x400,
-        SlotType::TooWide => 0x100,
+        Ok(octet) => report::wide(octet),
+        Err(refusal) => 256 * report::wide(refusal.number()),
     }
 }
 

@@ -1,19 +1,24 @@
 -- `forms::on_datagram` meets its contract.
 -- Assumes nothing.
+use mathlib.Core.Path.{sym, ◌∙◌}
 use Rattle.forms.specs.Forms.{a_datagram}
-use Rattle.forms.proofs.FormEvents.{brought_number, brought_record, brought_event}
+use Rattle.forms.proofs.FormEvents.{brought_number, brought_record, brought_event, untaken_number, untaken_record, untaken_zero}
 use Rattle.forms.proofs.on_datagram.Goals as goal
 
 pub on_record-requires : goal.on_record-requires
-on_record-requires c =
-    let g = c.arrival_of-brought in
-    brought_event c.args.datagram.now g.result g.ensures c.record_kind.result c.record_kind.ensures
+on_record-requires c = λ z. brought_event c.args.datagram.now _ (sym c.arrival_of.ensures ∙ c.in-Ok.is) _ c.record_kind.ensures
 
-pub returns : goal.returns
-returns c =
-    let a = c.args in
-    let d = a.datagram.now in
-    let g = c.arrival_of-brought in
-    let k = c.record_kind in
-    c.on_record.ensures (a_datagram d) (brought_number d g.result g.ensures k.result k.ensures)
-    (brought_record d g.result g.ensures k.result k.ensures)
+pub on_record-requires-in-Err : goal.on_record-requires-in-Err
+on_record-requires-in-Err c = λ z. absurd (untaken_zero c.args.datagram.now _ (sym c.arrival_of.ensures ∙ c.in-Err.is) (sym c.number.ensures ∙ z))
+
+pub returns-in-Ok : goal.returns-in-Ok
+returns-in-Ok c =
+    let d = c.args.datagram.now in
+    let is = sym c.arrival_of.ensures ∙ c.in-Ok.is in
+    c.on_record.ensures (a_datagram d) (brought_number d _ is _ c.record_kind.ensures) (brought_record d _ is _ c.record_kind.ensures)
+
+pub returns-in-Err : goal.returns-in-Err
+returns-in-Err c =
+    let d = c.args.datagram.now in
+    let is = sym c.arrival_of.ensures ∙ c.in-Err.is in
+    c.on_record-in-Err.ensures (a_datagram d) (untaken_number d _ is ∙ sym c.number.ensures) (untaken_record d _ is)

@@ -1,14 +1,19 @@
 -- `bursts::burst::field` meets its contract.
 -- Assumes nothing.
 use mathlib.Core.Path.{ap, ◌∙◌}
-use Rattle.codes.specs.Field.{read_field}
+use mathlib.Core.List.{[]}
+use native.Mathlib.Omega.{arith}
+use Rattle.foundation.specs.Refusals.{refusal, outcome}
+use Rattle.codes.specs.Field.{read_field, field_given}
+use Rattle.codes.proofs.FieldWords.{read-size}
 use Rattle.bursts.proofs.Numbers.{field-size, field-read}
 use Rattle.bursts.proofs.burst.field.Goals as goal
 
-pub returns-then-burst-ne33 : goal.returns-then-burst-ne33
-returns-then-burst-ne33 c = c.read.ensures ∙ field-size c.args.burst.now c.if-burst-ne33.true
+pub returns-then-burst-eq33 : goal.returns-then-burst-eq33
+returns-then-burst-eq33 c =
+    c.read.ensures ∙ ap field_given (ap read_field c.field_octets.ensures ∙ field-read c.args.burst.now c.if-burst-eq33.true)
 
-pub returns : goal.returns
-returns c =
-    let st = c in
-    c.read-2.ensures ∙ ap read_field c.field_octets-f.ensures ∙ field-read st.args.burst.now c.if-burst-ne33.false
+pub returns-else-burst-eq33 : goal.returns-else-burst-eq33
+unfolding field_given outcome refusal
+returns-else-burst-eq33 c =
+    ap field_given (read-size [] (λ e. omega arith) ∙ field-size c.args.burst.now c.if-burst-eq33.false)

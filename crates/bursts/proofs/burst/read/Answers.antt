@@ -1,43 +1,45 @@
 -- `bursts::burst::read` meets its contract.
 -- Assumes nothing.
-use mathlib.Core.Path.{sym, ◌∙◌}
-use Prim.Native.Nat.{◌%◌}
+use mathlib.Core.Path.{◌≡◌, sym, ap, ◌∙◌}
+use mathlib.Core.Bool.{Bool, false, true}
+use Prim.Native.Nat.{ℕ, ◌%◌}
 use native.Mathlib.Omega.{arith}
-use Rattle.bursts.proofs.Variants.{kind-known, slot-refused}
-use Rattle.bursts.proofs.DataTypes.{other_unknown}
-use Rattle.bursts.proofs.Numbers.{number_size, number-slot, number_type, read-refused}
-use borrow.Enum.Refused.{opened}
+use Rattle.std.proofs.lemmas.Result.{err_from_is_err_and}
+use Rattle.foundation.specs.Refusals.{refusal, outcome}
+use Rattle.codes.specs.SlotWord.{Data}
+use Rattle.codes.proofs.SlotReading.{given_data}
+use Rattle.bursts.specs.Bursts.{kind_of, known, burst_slot, burst_given}
+use Rattle.bursts.proofs.Variants.{known_by}
+use Rattle.bursts.proofs.Numbers.{number_type, read-refused, slot_refused, slot_sized, field_refused, field_good}
 use Rattle.bursts.proofs.burst.read.Goals as goal
 
-pub returns-then-burst-ne33 : goal.returns-then-burst-ne33
-returns-then-burst-ne33 c =
-    let b = c.args.burst.now in
-    c.refused.ensures ∙ read-refused b 1 (λ e. omega arith) (number_size b c.if-burst-ne33.true)
+pub returns-in_err-slot : goal.returns-in_err-slot
+returns-in_err-slot c =
+    let p = err_from_is_err_and c.from_residual.result c.from_residual.ensures.1 in
+    rw (p.1, p.2) (slot_refused c.args.burst.now _ (sym c.slot_type.ensures ∙ c.in_err-slot.was))
 
-pub returns-in_default : goal.returns-in_default
-returns-in_default c =
+pub returns-then-eq : goal.returns-then-eq
+unfolding burst_given outcome refusal
+returns-then-eq c =
     let b = c.args.burst.now in
-    let s = c.slot_type in
-    c.refused-in_default.ensures
-    ∙ read-refused b 4 (λ e. omega arith)
-    (number-slot b c.if-burst-ne33.false (slot-refused b s.result s.ensures (opened c.in_default.in_default-own.keys2)))
+    let d = c.in_ok-slot.slot in
+    let s : burst_slot b ≡ Data d = given_data (burst_slot b) d (sym c.slot_type.ensures ∙ c.in_ok-slot.was) in
+    ap burst_given (read-refused b 5 (λ e. omega arith)
+    (number_type b d (slot_sized b d s) s (known_by (d % 16) c.from.result true c.from.ensures (sym c.eq.ensures ∙ c.if-eq.true))))
 
-pub contents-requires : goal.contents-requires
-contents-requires c =
-    let s = c.slot_type in
-    let k = c.kind_of in
-    record {
-      size = c.if-burst-ne33.false;
-      slot = sym s.ensures ∙ c.in-Data.is;
-      kind = kind-known (c.in-Data.d % 16) k.result k.ensures (opened c.in_default-kind_of.in_default-kind_of-own.keys2);
-    }
-
-pub returns-in-Other : goal.returns-in-Other
-returns-in-Other c =
+pub returns-in_err-info : goal.returns-in_err-info
+returns-in_err-info c =
     let b = c.args.burst.now in
-    let s = c.slot_type in
-    let k = c.kind_of in
-    c.refused-in-Other.ensures
-    ∙ read-refused b 5 (λ e. omega arith)
-    (number_type b c.in-Data.d c.if-burst-ne33.false (sym s.ensures ∙ c.in-Data.is)
-    (other_unknown (c.in-Data.d % 16) k.result k.ensures c.in-Other.is))
+    let d = c.in_ok-slot.slot in
+    let s : burst_slot b ≡ Data d = given_data (burst_slot b) d (sym c.slot_type.ensures ∙ c.in_ok-slot.was) in
+    let p = err_from_is_err_and c.from_residual-in_err-info.result c.from_residual-in_err-info.ensures.1 in
+    let k : known (kind_of (d % 16)) ≡ true = known_by (d % 16) c.from.result false c.from.ensures (sym c.eq.ensures ∙ c.if-eq.false) in
+    rw (p.1, p.2) (field_refused b d (slot_sized b d s) s k _ (sym c.field.ensures ∙ c.in_err-info.was))
+
+pub returns : goal.returns
+returns c =
+    let b = c.args.burst.now in
+    let d = c.in_ok-slot.slot in
+    let s : burst_slot b ≡ Data d = given_data (burst_slot b) d (sym c.slot_type.ensures ∙ c.in_ok-slot.was) in
+    let k : known (kind_of (d % 16)) ≡ true = known_by (d % 16) c.from.result false c.from.ensures (sym c.eq.ensures ∙ c.if-eq.false) in
+    field_good b d (slot_sized b d s) s k _ (sym c.field.ensures ∙ c.in_ok-info.was)

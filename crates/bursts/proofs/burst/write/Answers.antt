@@ -1,56 +1,51 @@
--- `bursts::burst::write` meets its contract.
+-- `bursts::burst::write` meets its contract: what the writer answers, and that it comes back.
 -- Assumes nothing.
--- what the writer answers, and that it comes back
-use mathlib.Core.Path.{◌≡◌, ap, ◌∙◌}
+use mathlib.Core.Path.{◌≡◌, sym, ap, subst, ◌∙◌}
+use mathlib.Core.Bool.{Bool, false, true}
 use mathlib.Core.List.{List}
 use Prim.Native.Nat.{ℕ, ◌<◌}
+use native.Mathlib.Decide.{dec_lt}
 use native.Mathlib.Omega.{arith}
 use mir.Syntax.{w8}
-use lib.ListN.{length, get_or}
 use borrow.Author.Rules.{rules, elem_Fits}
-use Rattle.bursts.specs.Bursts.{write_burst}
+use Rattle.foundation.specs.Refusals.{refusal, outcome}
+use Rattle.bursts.specs.Bursts.{BurstOctets, kind_of, known, burst_octets_given}
 use Rattle.bursts.specs.BurstClaims.{BurstComesBack}
-use Rattle.bursts.specs.declared.burst.BurstOctets.{BurstOctets}
-use Rattle.bursts.specs.declared.burst.Sync.{Sync}
-use Rattle.bursts.proofs.Variants.{kind-known}
-use Rattle.bursts.proofs.DataTypes.{other_unknown, known-lt}
+use Rattle.bursts.proofs.Variants.{known_by}
+use Rattle.bursts.proofs.DataTypes.{known-lt}
 use Rattle.bursts.proofs.Numbers.{write_wide, write_other, write_good}
-use Rattle.bursts.proofs.ReadingBack.{answer_back}
-use borrow.Enum.Refused.{opened}
+use Rattle.bursts.proofs.ReadingBack.{comes_back}
+use Rattle.bursts.proofs.burst.write.Goals.{then-colour-ge16-via-then-colour-ge16, then-colour-ge16-via-else-colour-ge16+then-eq}
 use Rattle.bursts.proofs.burst.write.Goals as goal
 
-both : (colour type : ℕ) (info : List ℕ) (sync : Sync) (r : BurstOctets) → length info ≡ 12 → ((j : ℕ) → get_or info j 0 < 256)
-    → r ≡ write_burst colour type info sync → (r ≡ write_burst colour type info sync) × (r.number ≡ 0 → BurstComesBack colour type info r.octets)
-both colour type info sync r size octet is = (is, answer_back colour type info sync size octet r is)
-
-pub returns-then-colour-ge16 : goal.returns-then-colour-ge16
-returns-then-colour-ge16 c =
+pub returns-then-colour-ge16-clause-gives : goal.returns-then-colour-ge16-clause-gives
+unfolding burst_octets_given outcome refusal
+returns-then-colour-ge16-clause-gives c =
     let a = c.args in
-    both a.colour a.datatype a.info a.sync _ (search (rules, c.well_formed)) (λ j. (elem_Fits w8 w8 a.info _ j c.well_formed.1.1.0.1.1 tt).fits)
-    (write_wide a.colour a.datatype a.info a.sync c.if-colour-ge16.true)
+    elim c.then-colour-ge16.branch [
+      | then-colour-ge16-via-then-colour-ge16 w ↦ ap burst_octets_given (write_wide a.colour a.datatype a.info a.sync w.if-colour-ge16.true)
+      | then-colour-ge16-via-else-colour-ge16+then-eq w ↦
+          ap burst_octets_given (write_other a.colour a.datatype a.info a.sync w.if-colour-ge16.false
+          (known_by a.datatype w.from.result true w.from.ensures (sym w.eq.ensures ∙ w.if-eq.true)))
+    ]
 
 pub written-requires : goal.written-requires
 written-requires c =
     let t = c.args.datatype in
-    let k = c.kind_of in
-    (omega arith, known-lt t (kind-known t k.result k.ensures (opened c.in_default.in_default-own.keys2)))
+    (c.if-colour-ge16.false, known-lt t (known_by t c.from.result false c.from.ensures (sym c.eq.ensures ∙ c.if-eq.false)))
 
-pub returns-in-Other : goal.returns-in-Other
-returns-in-Other c =
+pub returns-clause-gives : goal.returns-clause-gives
+unfolding burst_octets_given outcome
+returns-clause-gives c =
     let a = c.args in
-    let k = c.kind_of in
-    let g = c.well_formed in
-    both a.colour a.datatype a.info a.sync _ (search (rules, g)) (λ j. (elem_Fits w8 w8 a.info _ j g.1.1.0.1.1 tt).fits)
-    (write_other a.colour a.datatype a.info a.sync (omega arith) (other_unknown a.datatype k.result k.ensures c.in-Other.is))
+    let made : List ℕ → BurstOctets = λ os. record { number = 0; octets = os } in
+    ap burst_octets_given (ap made c.written.ensures
+    ∙ write_good a.colour a.datatype a.info a.sync c.if-colour-ge16.false (known_by a.datatype c.from.result false c.from.ensures (sym c.eq.ensures ∙ c.if-eq.false)))
 
-pub returns-in_default : goal.returns-in_default
-returns-in_default c =
+pub returns-clause-comes_back : goal.returns-clause-comes_back
+returns-clause-comes_back c =
     let a = c.args in
-    let k = c.kind_of in
     let g = c.well_formed in
-    both a.colour a.datatype a.info a.sync _ (search (rules, g)) (λ j. (elem_Fits w8 w8 a.info _ j g.1.1.0.1.1 tt).fits)
-    (ap made c.written.ensures
-    ∙ write_good a.colour a.datatype a.info a.sync (omega arith) (kind-known a.datatype k.result k.ensures (opened c.in_default.in_default-own.keys2)))
-  where
-    made : List ℕ → BurstOctets
-    made os = record { number = 0; octets = os }
+    subst (λ (os : List ℕ). BurstComesBack a.colour a.datatype a.info os) (sym c.written.ensures)
+    (comes_back a.colour a.datatype a.info a.sync c.if-colour-ge16.false (known_by a.datatype c.from.result false c.from.ensures (sym c.eq.ensures ∙ c.if-eq.false))
+    (search (rules, g)) (λ j. (elem_Fits w8 w8 a.info _ j g.1.1.0.1.1 tt).fits))

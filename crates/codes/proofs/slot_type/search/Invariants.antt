@@ -2,12 +2,8 @@
 -- Assumes nothing.
 use Rattle.codes.proofs.SlotWords.{parities}
 use mathlib.Core.Path.{◌≡◌}
-use Prim.Native.Nat.{◌≤◌}
 use Rattle.codes.specs.SlotWord.{near_below}
 use Rattle.codes.proofs.slot_type.search.Given as goal
 
 abbrev pub invariant-loop-k : goal.invariant-loop-k
-invariant-loop-k l = (l.k ≤ 256) × (l.parity ≡ parities) × (near_below 256 l.word ≡ near_below l.k l.word)
-
-abbrev pub decreases-loop-k : goal.decreases-loop-k
-decreases-loop-k l = l.k
+invariant-loop-k l = (l.parity ≡ parities) × (near_below 256 l.word ≡ near_below l.k l.word)

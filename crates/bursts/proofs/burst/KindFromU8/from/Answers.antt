@@ -1,7 +1,7 @@
--- `bursts::burst::kind_of` meets its contract.
+-- `Kind::from` meets its contract.
 -- Assumes nothing.
 use Rattle.bursts.proofs.DataTypes.{kind-header, kind-block, kind_other}
-use Rattle.bursts.proofs.burst.kind_of.Goals as goal
+use Rattle.bursts.proofs.burst.KindFromU8.from.Goals as goal
 
 pub returns-in-6 : goal.returns-in-6
 returns-in-6 c = kind-header c.args.datatype c.in-6.is
