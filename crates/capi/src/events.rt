@@ -1,10 +1,12 @@
 // The receiver, for C: its state is its stored form. A stamp has its most significant octet first.
 ghost use Rattle.std.specs.Prelude.{◌≡◌, ◌/◌, ◌%◌};
+ghost use Rattle.foundation.specs.Refusals.{number_given};
 ghost use Rattle.history.specs.History.{header, block, ended};
 ghost use Rattle.forms.specs.Forms.{fresh_number, after_fresh, an_event, a_datagram};
 ghost use Rattle.capi.specs.Events.{address_of, Acts};
 
 use addresses::RadioAddress;
+use foundation::refusal::Refusal;
 
 fn high(stamp: u16) -> u8
     ensures { result ≡ stamp / 256 }
@@ -18,13 +20,24 @@ fn low(stamp: u16) -> u8
     (stamp % 256) as u8
 }
 
+// The number that C gets: 0, or that of the refusal.
+#[tactic(auto, unfolding(foundation::specs::Refusals::number_given))]
+fn number(given: Result<(), Refusal>) -> u8
+    ensures { result ≡ number_given given }
+{
+    match given {
+        Ok(()) => 0,
+        Err(refusal) => refusal.number(),
+    }
+}
+
 // The stored form of a fresh receiver.
 #[unsafe(no_mangle)]
 pub extern "C" fn kirruskabe_fresh(own: u32, stamp: u16, form: &mut [u8]) -> u8
     ensures { (result ≡ fresh_number (address_of own) form.old)
         × (form.new ≡ after_fresh (address_of own) (stamp / 256) (stamp % 256) form.old) }
 {
-    forms::fresh_form(RadioAddress(own), high(stamp), low(stamp), form)
+    number(forms::fresh_form(RadioAddress(own), high(stamp), low(stamp), form))
 }
 
 // The octets of a datagram.
@@ -37,7 +50,7 @@ pub extern "C" fn kirruskabe_on_datagram(
 ) -> u8
     ensures { Acts (a_datagram datagram.now) stamp form.old line.old result form.new line.new }
 {
-    forms::on_datagram(form, high(stamp), low(stamp), datagram, line)
+    number(forms::on_datagram(form, high(stamp), low(stamp), datagram, line))
 }
 
 // The octets of a header.
@@ -50,7 +63,7 @@ pub extern "C" fn kirruskabe_on_header(
 ) -> u8
     ensures { Acts (an_event (header octets.now)) stamp form.old line.old result form.new line.new }
 {
-    forms::on_header(form, high(stamp), low(stamp), octets, line)
+    number(forms::on_header(form, high(stamp), low(stamp), octets, line))
 }
 
 // The octets of a block.
@@ -63,7 +76,7 @@ pub extern "C" fn kirruskabe_on_block(
 ) -> u8
     ensures { Acts (an_event (block octets.now)) stamp form.old line.old result form.new line.new }
 {
-    forms::on_block(form, high(stamp), low(stamp), octets, line)
+    number(forms::on_block(form, high(stamp), low(stamp), octets, line))
 }
 
 // An end of attempt.
@@ -71,5 +84,5 @@ pub extern "C" fn kirruskabe_on_block(
 pub extern "C" fn kirruskabe_on_end(form: &mut [u8], stamp: u16, line: &mut [u8]) -> u8
     ensures { Acts (an_event ended) stamp form.old line.old result form.new line.new }
 {
-    forms::on_end(form, high(stamp), low(stamp), line)
+    number(forms::on_end(form, high(stamp), low(stamp), line))
 }

@@ -6,8 +6,7 @@ use Prim.Native.Nat.{ℕ, ◌^◌, ◌<◌}
 use lib.ListN.{length}
 use Rattle.addresses.specs.Octets.{address_at}
 use Rattle.addresses.specs.declared.RadioAddress.{RadioAddress}
-use Rattle.receiver_state.specs.Receiver.{store_size}
-use Rattle.receiver_state.specs.declared.Fresh.{Fresh}
+use Rattle.receiver_state.specs.Receiver.{store_size, Fresh}
 use Rattle.receiver_state.specs.declared.Receiver.{Receiver}
 use Rattle.history.specs.History.{History, nothing}
 use Rattle.history.specs.Run.{State}

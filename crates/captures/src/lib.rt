@@ -52,10 +52,8 @@ pub struct Listed {
 pub fn start(own: &[u8]) -> Gateway
     ensures { result ≡ started own.now }
 {
-    let fresh = receiver_state::fresh_for(addresses::address_at(own, 0));
-    let receiver = fresh.receiver;
     Gateway {
-        receiver,
+        receiver: receiver_state::idle(addresses::address_at(own, 0)),
         counts: counting::none(),
     }
 }

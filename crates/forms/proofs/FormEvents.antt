@@ -10,13 +10,16 @@ use native.Mathlib.Decide.{ℕ_discrete}
 use lib.Dec.{eqb, lit<}
 use lib.ListN.{length, get_or, replicate, length-replicate}
 use borrow.Author.Tests.{eq-eqb, ne_eqb}
+use Rattle.std.specs.Prelude.{Result, Ok, Err}
 use Rattle.foundation.specs.Order.{first_failed, all}
+use Rattle.foundation.specs.Refusals.{outcome, refusal}
+use Rattle.foundation.specs.declared.refusal.Refusal.{Refusal}
+use Rattle.foundation.specs.declared.refusal.Refusal.TheVariants.{Size}
+use Rattle.foundation.proofs.Refusals.{ok_zero, err_number, err_any}
+use Rattle.forms.proofs.Refusals.{given_size}
 use Rattle.bursts.specs.Bursts.{known}
 use Rattle.bursts.specs.declared.burst.Kind.{Kind}
 use Rattle.bursts.specs.declared.burst.Kind.TheVariants.{Header, Block, Other}
-use Rattle.std.specs.Prelude.{Ok, Err}
-use Rattle.foundation.specs.Refusals.{refusal_number}
-use Rattle.foundation.specs.declared.refusal.Refusal.{Refusal}
 use Rattle.reception.specs.Reception.{arrival_of, arrival_given}
 use Rattle.reception.specs.declared.Arrival.{Arrival}
 use Rattle.reception.proofs.Claims.{brings}
@@ -25,7 +28,8 @@ use Rattle.transactions.specs.Answers.{refused, number_of}
 use Rattle.foundation.proofs.Order.{itself}
 use Rattle.foundation.proofs.Tests.{never}
 use Rattle.receiver_state.specs.declared.Receiver.{Receiver}
-use Rattle.stored.specs.Stored.{stored_block, after_save}
+use Rattle.receiver_state.specs.Receiver.{store_size}
+use Rattle.stored.specs.Stored.{stored_block, save_number, after_save}
 use Rattle.stored.specs.Claims.{Savable}
 use Rattle.history.specs.History.{Event, header, block, ended}
 use Rattle.history.specs.Run.{event, State, answer_to, saved_form}
@@ -65,7 +69,7 @@ module _ (s : State) (s0 s1 : ℕ) (form line out : List ℕ) where
   code o = sym (ap (λ (l : List ℕ). get_or l 0 0) o)
 
   abbrev Refused : Record → Type 0
-  Refused r = out ≡ line_in (line_of s r) → get_or out 0 0 ≡ 0 → Answered s r s0 s1 form line (get_or out 3 0) form line
+  Refused r = out ≡ line_in (line_of s r) → get_or out 0 0 ≡ 0 → Answered s r s0 s1 form line (outcome (get_or out 3 0) tt) form line
 
   event-refused : (e : Event) → Refused (act (event e))
   unfolding line_of line_number number_of
@@ -74,17 +78,17 @@ module _ (s : State) (s0 s1 : ℕ) (form line out : List ℕ) where
       let is : answer_to s e ≡ refused n = line_refused (answer_to s e) (code o ∙ z) ∙ ap (λ (l : List ℕ). refused (get_or l 3 0)) (sym o) in
       let some : eqb n 0 ≡ false = ne_eqb n 0 (refused-numbered (answer_to s e) n (numbered s e) is) in
       let k : number_of (answer_to s e) ≡ n = ap number_of is in
-      (sym k, rw (k, some), rw (k, some))
+      (rw k, rw (k, some), rw (k, some))
 
   pub acted_refused : (r : Record) → Happens r → Refused r
   acted_refused r h = subst Refused (sym h.is) (event-refused h.what)
 
   abbrev Taken : Record → Type 0
-  Taken r = out ≡ line_in (line_of s r) → get_or out 0 0 ≢ 0 → Answered s r s0 s1 form line 0 (saved_form (after_record s r) s0 s1) out
+  Taken r = out ≡ line_in (line_of s r) → get_or out 0 0 ≢ 0 → Answered s r s0 s1 form line (Ok tt) (saved_form (after_record s r) s0 s1) out
 
   event-taken : (e : Event) → Taken (act (event e))
-  unfolding line_of line_number
-  event-taken e o z = let k : number_of (answer_to s e) ≡ 0 = line_taken (answer_to s e) (λ y. z (sym (code o) ∙ y)) in (sym k, rw k, o ∙ rw k)
+  unfolding line_of line_number outcome
+  event-taken e o z = let k : number_of (answer_to s e) ≡ 0 = line_taken (answer_to s e) (λ y. z (sym (code o) ∙ y)) in (rw k, rw k, o ∙ rw k)
 
   pub acted_taken : (r : Record) → Happens r → Taken r
   acted_taken r h = subst Taken (sym h.is) (event-taken h.what)
@@ -97,6 +101,13 @@ module _ (rx : Receiver) (store : List ℕ) (m : Savable rx store) (small : Octe
   event-savable : (e : Event) → demand3.Given e → SavableAfter (act (event e))
   unfolding after_record
   event-savable e o = savable-after rx store m small e o
+
+  pub saved_number : (r : Record) → Happens r → (form : List ℕ) → length form ≡ 2 * stored_block → (next : Receiver) (left : List ℕ)
+      → next ≡ (after_record (state_of rx store) r).receiver → left ≡ (after_record (state_of rx store) r).store → save_number next left form ≡ 0
+  unfolding save_number first_failed
+  saved_number r h form size next left en el =
+      let v : SavableAfter r = subst SavableAfter (sym h.is) (event-savable h.what h.given) in
+      rw (en, el, v.good, eq-eqb (length (after_record (state_of rx store) r).store) store_size v.room, eq-eqb (length form) (2 * stored_block) size)
 
   pub saved_after : (r : Record) → Happens r → (s0 s1 : ℕ) (form : List ℕ) → length form ≡ 2 * stored_block → (next : Receiver) (left : List ℕ)
       → next ≡ (after_record (state_of rx store) r).receiver → left ≡ (after_record (state_of rx store) r).store
@@ -114,21 +125,27 @@ behind_sizes form a =
     ∷ (eqb (line_number (line_asked form a)) 0, line_number (line_asked form a)) ∷ [])
 
 module _ (form : List ℕ) (s0 s1 : ℕ) (line : List ℕ) (a : Asked) where
-  abbrev pub Outcome : ℕ → List ℕ → List ℕ → Type 0
+  abbrev pub Outcome : Result (Unit {0}) Refusal → List ℕ → List ℕ → Type 0
   Outcome = ActsOn a s0 s1 form line
 
-  no_change : (n : ℕ) → event_number form line a ≡ n → n ≢ 0 → Outcome n form line
+  pub stays : (n : ℕ) → event_number form line a ≡ n → n ≢ 0 → (n ≡ event_number form line a) × (form ≡ form_after form s0 s1 line a) × (line ≡ line_after form line a)
   unfolding form_after line_after
-  no_change n e d = (sym e, rw (e, ne_eqb n 0 d), rw (e, ne_eqb n 0 d))
+  stays n e d = (sym e, rw (e, ne_eqb n 0 d), rw (e, ne_eqb n 0 d))
 
-  pub other_line : length line ≢ line_size → Outcome 1 form line
-  other_line d = no_change 1 (unfold event_number first_failed in rw (ne_eqb (length line) line_size d)) (λ z. omega arith)
+  no_change : (n : ℕ) → event_number form line a ≡ n → n ≢ 0 → Outcome (outcome n tt) form line
+  no_change n e d = let (x, y, z) = stays n e d in (ap (λ (k : ℕ). outcome k tt) x, y, z)
+
+  -- 1 is given for a size
+  other_size : event_number form line a ≡ 1 → Outcome (Err Size) form line
+  unfolding outcome refusal
+  other_size e = no_change 1 e (λ z. omega arith)
+
+  pub other_line : length line ≢ line_size → Outcome (Err Size) form line
+  other_line d = other_size (unfold event_number first_failed in rw (ne_eqb (length line) line_size d))
 
   module _ (room : length line ≡ line_size) where
-    pub other_form : length form ≢ 2 * stored_block → Outcome 1 form line
-    other_form d =
-        no_change 1 (unfold event_number first_failed in rw (eq-eqb (length line) line_size room, ne_eqb (length form) (2 * stored_block) d))
-        (λ z. omega arith)
+    pub other_form : length form ≢ 2 * stored_block → Outcome (Err Size) form line
+    other_form d = other_size (unfold event_number first_failed in rw (eq-eqb (length line) line_size room, ne_eqb (length form) (2 * stored_block) d))
 
     module _ (size : length form ≡ 2 * stored_block) where
       -- the tests behind the sizes of the line and of the form
@@ -136,39 +153,51 @@ module _ (form : List ℕ) (s0 s1 : ℕ) (line : List ℕ) (a : Asked) where
       unfolding event_number behind_sizes first_failed
       behind_sizes_lem = rw (eq-eqb (length line) line_size room, eq-eqb (length form) (2 * stored_block) size)
 
-      pub other_asked : number_before a ≡ 1 → Outcome 1 form line
-      other_asked e =
-          no_change 1 (behind_sizes_lem ∙ unfold behind_sizes first_failed in rw (eq-eqb (number_before a) 1 e)) (λ z. omega arith)
+      by_size : number_before a ≡ 1 → event_number form line a ≡ 1
+      by_size e = behind_sizes_lem ∙ unfold behind_sizes first_failed in rw (eq-eqb (number_before a) 1 e)
 
-      module _ (other : number_before a ≢ 1) where
-        pub form_refused : (n : ℕ) → n ≡ form_number form → n ≢ 0 → Outcome n form line
-        form_refused n e d =
-            no_change n (behind_sizes_lem ∙ unfold behind_sizes first_failed in rw (ne_eqb (number_before a) 1 other, ← e, ne_eqb n 0 d)) d
-
-        module _ (taken : form_number form ≡ 0) where
-          pub number-refused : (n : ℕ) → number_before a ≡ n → n ≢ 0 → Outcome n form line
-          number-refused n e d =
-              no_change n (behind_sizes_lem ∙ unfold behind_sizes first_failed in rw (ne_eqb (number_before a) 1 other, taken, e, ne_eqb n 0 d)) d
+      by_number : form_number form ≡ 0 → number_before a ≢ 1 → number_before a ≢ 0 → event_number form line a ≡ number_before a
+      by_number taken other d =
+          behind_sizes_lem ∙ unfold behind_sizes first_failed in rw (ne_eqb (number_before a) 1 other, taken, ne_eqb (number_before a) 0 d)
 
       -- a number before any answer
-      pub refused_outcome : form_number form ≡ 0 → (n : ℕ) → number_before a ≡ n → n ≢ 0 → Outcome n form line
-      refused_outcome taken n e d = go (ℕ_discrete n 1)
+      pub refused_outcome : form_number form ≡ 0 → (n : ℕ) → number_before a ≡ n → n ≢ 0
+          → (n ≡ event_number form line a) × (form ≡ form_after form s0 s1 line a) × (line ≡ line_after form line a)
+      refused_outcome taken n e d = stays n (go (ℕ_discrete n 1)) d
         where
-          go : Dec (n ≡ 1) → Outcome n form line
-          go (yes one) = rw one (other_asked (e ∙ one))
-          go (no other) = number-refused (λ z. other (sym e ∙ z)) taken n e d
+          go : Dec (n ≡ 1) → event_number form line a ≡ n
+          go (yes one) = by_size (e ∙ one) ∙ sym one
+          go (no other) = by_number taken (λ z. other (sym e ∙ z)) (λ z. d (sym e ∙ z)) ∙ e
+
+      module _ (found : Result (Unit {0}) Refusal) (is : found ≡ outcome (number_before a) tt) where
+        pub size_found : found ≡ Err Size → Outcome (Err Size) form line
+        size_found e = other_size (by_size (given_size (number_before a) (sym is ∙ e)))
+
+        module _ (other : found ≢ Err Size) where
+          not_one : number_before a ≢ 1
+          unfolding outcome refusal
+          not_one z = other (is ∙ rw z)
+
+          pub form_refused : (r : Refusal) → (form_number form ≢ 0) × (Err r ≡ outcome {A = Unit {0}} (form_number form) tt) → Outcome (Err r) form line
+          form_refused r (d, e) =
+              rw e (no_change (form_number form) (behind_sizes_lem ∙ unfold behind_sizes first_failed in rw (ne_eqb (number_before a) 1 not_one, ne_eqb (form_number form) 0 d)) d)
+
+          pub found_refused : form_number form ≡ 0 → (r : Refusal) → found ≡ Err r → Outcome (Err r) form line
+          found_refused taken r e =
+              let d = err_number {A = Unit {0}} (number_before a) tt r (sym is ∙ e) in
+              rw (sym e ∙ is) (no_change (number_before a) (by_number taken not_one d) d)
 
       -- nothing is refused before the answer
       module _ (taken : form_number form ≡ 0) (none : number_before a ≡ 0) where
         pub number-left : event_number form line a ≡ line_number (line_asked form a)
         number-left = behind_sizes_lem ∙ unfold behind_sizes first_failed in rw (none, taken) (itself (line_number (line_asked form a)))
 
-        pub answer-left : (s : State) → s ≡ state_in form → (r : Record) → record_asked a ≡ r → (n : ℕ) (form' line' : List ℕ)
-            → Answered s r s0 s1 form line n form' line' → Outcome n form' line'
+        pub answer-left : (s : State) → s ≡ state_in form → (r : Record) → record_asked a ≡ r → (given : Result (Unit {0}) Refusal) (form' line' : List ℕ)
+            → Answered s r s0 s1 form line given form' line' → Outcome given form' line'
         unfolding form_after line_after line_asked state_asked
-        answer-left s is r same n form' line' h =
+        answer-left s is r same given form' line' h =
             let e : event_number form line a ≡ line_number (line_of (state_in form) (record_asked a)) = unfold line_asked in number-left in
-            let b : Answered (state_in form) (record_asked a) s0 s1 form line n form' line' = rw (is, ← same) at h in
+            let b : Answered (state_in form) (record_asked a) s0 s1 form line given form' line' = rw (is, ← same) at h in
             rw e b
 
 -- ---- the records of events
@@ -182,20 +211,20 @@ block_is os = block-kind 1 os (λ z. omega arith) refl
 header_is : (os : List ℕ) → record_of 0 os ≡ act (event (header os))
 header_is os = header-kind 0 os refl
 
-module _ (os form : List ℕ) (s0 s1 : ℕ) (line : List ℕ) (n : ℕ) (form' line' : List ℕ) where
-  pub header_acts : (k : ℕ) → k ≡ size_number os → ActsAs k 0 os s0 s1 form line n form' line'
+module _ (os form : List ℕ) (s0 s1 : ℕ) (line : List ℕ) (n : Result (Unit {0}) Refusal) (form' line' : List ℕ) where
+  pub header_acts : (k : Result (Unit {0}) Refusal) → k ≡ outcome (size_number os) tt → ActsAs k 0 os s0 s1 form line n form' line'
       → ActsOn (an_event (header os)) s0 s1 form line n form' line'
   unfolding number_before record_asked
-  header_acts k e g = g (an_event (header os)) (sym e) (sym (header_is os))
+  header_acts k e g = g (an_event (header os)) e (sym (header_is os))
 
-  pub block_acts : (k : ℕ) → k ≡ size_number os → ActsAs k 1 os s0 s1 form line n form' line'
+  pub block_acts : (k : Result (Unit {0}) Refusal) → k ≡ outcome (size_number os) tt → ActsAs k 1 os s0 s1 form line n form' line'
       → ActsOn (an_event (block os)) s0 s1 form line n form' line'
   unfolding number_before record_asked
-  block_acts k e g = g (an_event (block os)) (sym e) (sym (block_is os))
+  block_acts k e g = g (an_event (block os)) e (sym (block_is os))
 
-module _ (form : List ℕ) (s0 s1 : ℕ) (line : List ℕ) (n : ℕ) (form' line' : List ℕ) where
-  pub end_acts : ActsAs 0 2 [] s0 s1 form line n form' line' → ActsOn (an_event ended) s0 s1 form line n form' line'
-  unfolding number_before record_asked
+module _ (form : List ℕ) (s0 s1 : ℕ) (line : List ℕ) (n : Result (Unit {0}) Refusal) (form' line' : List ℕ) where
+  pub end_acts : ActsAs (Ok tt) 2 [] s0 s1 form line n form' line' → ActsOn (an_event ended) s0 s1 form line n form' line'
+  unfolding number_before record_asked outcome
   end_acts g = g (an_event ended) refl (sym end_is)
 
 -- ---- a datagram
@@ -218,9 +247,9 @@ event-kind Other os e = never e refl
 
 -- a datagram that brings x
 module _ (d : List ℕ) (x : Arrival) (is : arrival_given (arrival_of d) ≡ Ok x) (k : ℕ) (e : k ≡ kind_number x.kind) where
-  pub brought_number : number_before (a_datagram d) ≡ 0
-  unfolding arrival_of number_before
-  brought_number = taken-number d x is
+  pub brought_number : Ok tt ≡ outcome (number_before (a_datagram d)) tt
+  unfolding arrival_of number_before outcome
+  brought_number = sym (ap (λ (n : ℕ). outcome n tt) (taken-number d x is))
 
   pub brought_record : record_asked (a_datagram d) ≡ record_of k x.octets
   unfolding record_asked
@@ -231,12 +260,12 @@ module _ (d : List ℕ) (x : Arrival) (is : arrival_given (arrival_of d) ≡ Ok 
 
 -- a datagram that is refused
 module _ (d : List ℕ) (r : Refusal) (is : arrival_given (arrival_of d) ≡ Err r) where
-  pub untaken_number : number_before (a_datagram d) ≡ refusal_number r
-  unfolding arrival_of number_before
-  untaken_number = sym (untaken-number d r is).0
+  pub untaken_found : Err r ≡ outcome (number_before (a_datagram d)) tt
+  unfolding arrival_of arrival_given number_before
+  untaken_found = sym (err_any _ _ tt r is)
 
-  pub untaken_zero : refusal_number r ≡ 0 → ⊥
-  untaken_zero z = let n = untaken-number d r is in n.1 (sym n.0 ∙ z)
+  pub untaken_none : ◌≡◌ {A = Result (Unit {0}) Refusal} (Err r) (Ok tt) → ⊥
+  untaken_none o = let e = untaken_found in err_number _ tt r (sym e) (ok_zero _ tt tt (sym e ∙ o))
 
   pub untaken_record : record_asked (a_datagram d) ≡ record_of 255 []
   unfolding record_asked carried_by

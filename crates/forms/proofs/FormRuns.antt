@@ -15,9 +15,8 @@ use Rattle.addresses.specs.declared.RadioAddress.{RadioAddress}
 use Rattle.transactions.specs.Answers.{refused, number_of}
 use Rattle.foundation.proofs.Tests.{either}
 use Rattle.receiver_state.specs.Receiver.{fresh_receiver}
-use Rattle.stored.specs.Stored.{stored_block, block0, receiver_in, restore_number, restored, after_restore}
+use Rattle.stored.specs.Stored.{stored_block, block0, receiver_in, restore_number, Restored, restored, after_restore}
 use Rattle.stored.specs.Claims.{Restores}
-use Rattle.stored.specs.declared.restoring.Restored.{Restored}
 use Rattle.stored.proofs.Claims.{claims}
 use Rattle.stored.proofs.Numbers.{sizes}
 use Rattle.history.specs.History.{Event, History, nothing, after, said_to}

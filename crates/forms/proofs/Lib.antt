@@ -5,3 +5,5 @@ pub mod FormEvents
 pub mod Asking
 pub mod FormRuns
 pub mod FreshForms
+pub mod Refusals
+pub mod Small

@@ -32,10 +32,9 @@ use Rattle.transactions.specs.Transactions.{serial_of}
 use Rattle.transactions.specs.Answers.{message}
 use Rattle.transactions.specs.declared.header.Transaction.{Transaction}
 use Rattle.foundation.proofs.Tests.{either}
-use Rattle.receiver_state.specs.Receiver.{store_size, held, all_held, fresh_receiver, fresh_for}
+use Rattle.receiver_state.specs.Receiver.{store_size, held, all_held, fresh_receiver}
 use Rattle.receiver.specs.Events.{BlockLeft, said, put_block, block_refusal, completed, taken, on_header, on_block}
 use Rattle.receiver_state.specs.declared.Receiver.{Receiver}
-use Rattle.receiver_state.specs.declared.Fresh.{Fresh}
 use Rattle.receiver.specs.declared.event.Answer.{Answer}
 use Rattle.receiver.specs.declared.event.Answer.TheVariants.{Refused, Opened, Repeat, Stored, Bad, Message}
 use Rattle.receiver.specs.declared.event.Step.{Step}
@@ -44,7 +43,7 @@ use Rattle.history.specs.Run.{State, after_event, answer_to}
 use Rattle.history.specs.Claims.{fresh_state}
 use Rattle.history.specs.Sending.{loop_number, LoopsBack}
 use Rattle.history.proofs.Sound.{sound_block}
-use Rattle.history.proofs.Follows.{Follows, fresh_fits, fresh_follows}
+use Rattle.history.proofs.Follows.{Follows, fresh_follows}
 use Rattle.history.proofs.Steps.{Matches}
 use Rattle.history.proofs.Blocks.{same_number, block-step}
 use Rattle.history.proofs.Demand3.{event-step}
@@ -169,11 +168,11 @@ module _ (m : List ℕ) (d : Delivery) (store : List ℕ) (room : length store �
       subst (Follows own (after_event s (header h))) (after-header m d t.short t.within)
       (event-step own s nothing f (header h) (header-octets m d t.short t.within)).follows
 
-  pub looping_none : (f : Fresh) (w : HeaderOctets) (r : Step) → f ≡ fresh_for own → w ≡ full_header (length m) d → r ≡ on_header f.receiver w.octets
+  pub looping_none : (f : Receiver) (w : HeaderOctets) (r : Step) → f ≡ fresh_receiver own → w ≡ full_header (length m) d → r ≡ on_header f w.octets
       → Looping m store 0 r.receiver store r.answer
   looping_none f w r ef ew er =
       let e : r ≡ on_header (fresh_receiver own) h =
-      er ∙ ap₂ (λ (x : Fresh) (y : HeaderOctets). on_header x.receiver y.octets) (ef ∙ fresh_fits own t.within.destination)
+      er ∙ ap₂ (λ (x : Receiver) (y : HeaderOctets). on_header x y.octets) ef
       (ew ∙ messages.full-header (length m) d t.within t.short) in
       record {
         delivery = d;

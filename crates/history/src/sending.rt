@@ -19,8 +19,7 @@ pub fn loop_back(message: &[u8], d: Delivery, store: &mut [u8]) -> Answer
     if header.number != 0 {
         return Answer::Refused(16);
     }
-    let fresh = receiver_state::fresh_for(d.destination);
-    let first = fresh.receiver;
+    let first = receiver_state::idle(d.destination);
     let octets = header.octets;
     let opened = receiver::event::on_header(first, &octets);
     let mut rx = opened.receiver;

@@ -1,14 +1,15 @@
 -- A record of a log, of a kind (0 header, 1 block, 2 end of attempt, 3 restart) and octets; what is answered to it, in a line of 1,027 octets.
 -- Assumes nothing.
-use Rattle.std.specs.Prelude.{cond, List, [], ◌∷◌, ◌++◌, ℕ, ◌+◌, ◌*◌, ◌-◌, ◌/◌, ◌%◌, eqb, length, get_or, drop, replicate}
+use Rattle.std.specs.Prelude.{Result, cond, List, [], ◌∷◌, ◌++◌, ℕ, ◌+◌, ◌*◌, ◌-◌, ◌/◌, ◌%◌, eqb, length, get_or, drop, replicate}
 use Rattle.foundation.specs.Order.{first_failed, all}
+use Rattle.foundation.specs.Refusals.{outcome}
+use Rattle.foundation.specs.declared.refusal.Refusal.{Refusal}
 use Rattle.transactions.specs.Answers.{Said, refused, opened, repeat, stored, bad, message, response}
 use Rattle.receiver_state.specs.Receiver.{store_size, receiver_good}
 use Rattle.receiver_state.specs.declared.Receiver.{Receiver}
 use Rattle.stored.specs.Stored.{stored_block}
 use Rattle.history.specs.History.{header, block, ended}
 use Rattle.history.specs.Run.{Action, event, restart, State, after_event, answer_to, saved_form, after_restart}
-use Rattle.logs.specs.declared.recording.Recorded.{Recorded}
 
 -- a record is an action, or none: of an unknown kind, a restart of another length, an end of attempt with octets, or one that is cut short
 pub data Record : Type 0 where
@@ -81,6 +82,14 @@ record_number rx store line =
 
 abbrev pub state_of : Receiver → List ℕ → State
 state_of rx store = record { receiver = rx; store = store }
+
+-- number 0 and the receiver after a record, or the number of the refusal and the receiver as it was
+pub record Recorded : Type 0 where
+  pub number : ℕ
+  pub receiver : Receiver
+
+unfoldable pub recorded_given : Recorded → Result Receiver Refusal
+recorded_given r = outcome r.number r.receiver
 
 -- the receiver, the store and the line after a record; a refusal changes none of them
 unfoldable pub recorded : Receiver → List ℕ → Record → List ℕ → Recorded

@@ -8,8 +8,9 @@ ghost use Rattle.stored.specs.Stored.{stored_block};
 ghost use Rattle.history.specs.History.{header, block};
 ghost use Rattle.history.specs.Run.{event};
 ghost use Rattle.logs.specs.Claims.{RecordRefused};
-ghost use Rattle.logs.specs.Log.{line_size, answer, act, record_of, line_octets, line_in, line_of, restart_of, after_record, state_of, recorded, record_store, record_line};
+ghost use Rattle.logs.specs.Log.{line_size, answer, act, record_of, line_octets, line_in, line_of, restart_of, after_record, state_of, recorded, recorded_given, record_store, record_line};
 
+use foundation::refusal::Refusal;
 use messages::response::ResponseOctets;
 use receiver::event::Answer;
 use receiver_state::{Receiver, STORE};
@@ -55,8 +56,7 @@ fn put_refusal(line: &mut [u8], number: u8)
     requires { length line.old ≡ line_size }
     ensures { line.new ≡ line_in (answer (refused number)) }
 {
-    let octets = [number];
-    put(line, REFUSED, &octets);
+    put(line, REFUSED, &[number]);
 }
 
 // The line of an answer to a header or a block; a message stands in the store.
@@ -116,8 +116,7 @@ fn record_header(rx: Receiver, store: &[u8], octets: &[u8], line: &mut [u8]) -> 
         × (line.new ≡ line_in (line_of (state_of rx store.now) (act (event (header octets.now))))) }
 {
     let step = receiver::event::on_header(rx, octets);
-    let a = step.answer;
-    put_answer(line, a, store);
+    put_answer(line, step.answer, store);
     step.receiver
 }
 
@@ -129,8 +128,7 @@ fn record_block(rx: Receiver, store: &mut [u8], octets: &[u8], line: &mut [u8]) 
         × (line.new ≡ line_in (line_of (state_of rx store.old) (act (event (block octets.now))))) }
 {
     let step = receiver::event::on_block(rx, store, octets);
-    let a = step.answer;
-    put_answer(line, a, store);
+    put_answer(line, step.answer, store);
     step.receiver
 }
 
@@ -143,13 +141,11 @@ fn record_restart(rx: Receiver, store: &mut [u8], octets: &[u8], line: &mut [u8]
         × (line.new ≡ line_in (line_of (state_of rx store.old) (restart_of octets.now))) }
 {
     let mut form = [0u8; FORM];
-    stored::saving::save(rx, store, octets[0], octets[1], &mut form);
+    let _ = stored::saving::save(rx, store, octets[0], octets[1], &mut form);
     put(line, RESTORED, &form);
     foundation::octets::put(store, 0, &octets[2..]);
-    let fresh = receiver_state::fresh_for(rx.own);
-    let next = fresh.receiver;
-    let restored = stored::restoring::restore(next, &form, store);
-    restored.receiver
+    let fresh = receiver_state::idle(rx.own);
+    stored::restoring::restore(fresh, &form, store).unwrap_or(fresh)
 }
 
 // The record of this kind and these octets.
@@ -181,41 +177,21 @@ fn record_kind(rx: Receiver, store: &mut [u8], kind: u8, octets: &[u8], line: &m
     rx
 }
 
-// Number 0 and the receiver after a record, or the number of the refusal and the receiver as it was.
-#[derive(Clone, Copy)]
-pub struct Recorded {
-    pub number: u8,
-    pub receiver: Receiver,
-}
-
-// A record of a log, of this kind and these octets. The line gets what is answered.
-pub fn record(rx: Receiver, store: &mut [u8], kind: u8, octets: &[u8], line: &mut [u8]) -> Recorded
-    ensures { (result ≡ recorded rx store.old (record_of kind octets.now) line.old)
+// A record of a log, of this kind and these octets: the receiver after it. The line gets what is answered.
+pub fn record(
+    rx: Receiver,
+    store: &mut [u8],
+    kind: u8,
+    octets: &[u8],
+    line: &mut [u8],
+) -> Result<Receiver, Refusal>
+    ensures { (result ≡ recorded_given (recorded rx store.old (record_of kind octets.now) line.old))
         × (store.new ≡ record_store rx store.old (record_of kind octets.now) line.old)
         × (line.new ≡ record_line rx store.old (record_of kind octets.now) line.old)
         × RecordRefused (state_of rx store.old) (record_of kind octets.now) }
 {
-    if !receiver_state::is_good(rx) {
-        return Recorded {
-            number: 1,
-            receiver: rx,
-        };
+    if !receiver_state::is_good(rx) || store.len() != STORE || line.len() != LINE {
+        return Err(Refusal::Size);
     }
-    if store.len() != STORE {
-        return Recorded {
-            number: 1,
-            receiver: rx,
-        };
-    }
-    if line.len() != LINE {
-        return Recorded {
-            number: 1,
-            receiver: rx,
-        };
-    }
-    let receiver = record_kind(rx, store, kind, octets, line);
-    Recorded {
-        number: 0,
-        receiver,
-    }
+    Ok(record_kind(rx, store, kind, octets, line))
 }

@@ -2,9 +2,11 @@
 #![tactic(auto)]
 
 ghost use Rattle.std.specs.Prelude.{◌≡◌, cond, eqb};
-ghost use Rattle.receiver_state.specs.Receiver.{fresh_receiver, fresh_for, transaction_good, transaction_none, receiver_good};
+ghost use Rattle.receiver_state.specs.Receiver.{fresh_receiver, fresh_for, fresh_given, transaction_good, transaction_none, receiver_good};
+ghost use Rattle.receiver_state.specs.Parts.{flags_good};
 
 use addresses::RadioAddress;
+use foundation::refusal::Refusal;
 use messages::message::{BLOCK, CHECK, MOST_BLOCKS};
 use transactions::flags::FLAG_OCTETS;
 use transactions::header::Transaction;
@@ -13,6 +15,7 @@ use transactions::header::Transaction;
 pub const STORE: usize = BLOCK * MOST_BLOCKS;
 
 // The receiver: own address, phase (0 no transaction, 1 open, 2 complete), transaction, and the flags of the held blocks.
+// The phase stays a number: every event takes a receiver of any phase, and refuses with 1 one that there can't be.
 #[derive(Clone, Copy)]
 pub struct Receiver {
     pub own: RadioAddress,
@@ -21,15 +24,9 @@ pub struct Receiver {
     pub flags: [u8; FLAG_OCTETS],
 }
 
-// A fresh receiver and number 0, or the number of the refusal and a receiver of address 0.
-#[derive(Clone, Copy)]
-pub struct Fresh {
-    pub number: u8,
-    pub receiver: Receiver,
-}
-
 // A receiver with no transaction.
-fn idle(own: RadioAddress) -> Receiver
+#[tactic(auto, unfolding(crate::specs::Receiver::fresh_receiver, crate::specs::Receiver::no_transaction))]
+pub fn idle(own: RadioAddress) -> Receiver
     ensures { result ≡ fresh_receiver own }
 {
     let transaction = Transaction {
@@ -47,69 +44,39 @@ fn idle(own: RadioAddress) -> Receiver
     }
 }
 
-// A fresh receiver of an address; 16 for an address over 24 bits.
-pub fn fresh_for(own: RadioAddress) -> Fresh
-    ensures { result ≡ fresh_for own }
+// A fresh receiver of an address; refused for an address over 24 bits.
+#[tactic(auto, unfolding(crate::specs::Receiver::fresh_for, crate::specs::Receiver::fresh_given, foundation::specs::Refusals::outcome, foundation::specs::Refusals::refusal))]
+pub fn fresh_for(own: RadioAddress) -> Result<Receiver, Refusal>
+    ensures { result ≡ fresh_given (fresh_for own) }
 {
-    if !addresses::fits(own) {
-        let receiver = idle(RadioAddress(0));
-        return Fresh {
-            number: 16,
-            receiver,
-        };
-    }
-    let receiver = idle(own);
-    Fresh {
-        number: 0,
-        receiver,
+    if addresses::fits(own) {
+        Ok(idle(own))
+    } else {
+        Err(Refusal::Unwritable)
     }
 }
 
 // Whether the fields of a transaction are in range.
+#[tactic(auto, unfolding(crate::specs::Receiver::transaction_good, foundation::specs::Order::all))]
 fn transaction_good(t: Transaction) -> bool
     ensures { result ≡ transaction_good t }
 {
-    if !addresses::fits(t.source) {
-        return false;
-    }
-    if 16 <= t.sap {
-        return false;
-    }
-    if 8 <= t.ns {
-        return false;
-    }
-    if 32 <= t.pad {
-        return false;
-    }
-    let pad = t.pad as usize;
     let blocks = t.blocks as usize;
-    if blocks < 1 {
-        return false;
-    }
-    if MOST_BLOCKS < blocks {
-        return false;
-    }
-    pad <= BLOCK * blocks - CHECK
+    addresses::fits(t.source)
+        && t.sap < 16
+        && t.ns < 8
+        && t.pad < 32
+        && 1 <= blocks
+        && blocks <= MOST_BLOCKS
+        && t.pad as usize <= BLOCK * blocks - CHECK
 }
 
 // Whether every field of a transaction is 0.
+#[tactic(auto, unfolding(crate::specs::Receiver::transaction_none, foundation::specs::Order::all))]
 fn transaction_none(t: Transaction) -> bool
     ensures { result ≡ transaction_none t }
 {
-    let source = t.source;
-    if source.0 != 0 {
-        return false;
-    }
-    if t.sap != 0 {
-        return false;
-    }
-    if t.ns != 0 {
-        return false;
-    }
-    if t.pad != 0 {
-        return false;
-    }
-    t.blocks == 0
+    t.source.0 == 0 && t.sap == 0 && t.ns == 0 && t.pad == 0 && t.blocks == 0
 }
 
 // Whether the fields are those of the phase.
@@ -117,37 +84,35 @@ fn fields_good(phase: u8, t: Transaction) -> bool
     ensures { result ≡ cond (eqb phase 0) (transaction_none t) (transaction_good t) }
 {
     if phase == 0 {
-        return transaction_none(t);
+        transaction_none(t)
+    } else {
+        transaction_good(t)
     }
-    transaction_good(t)
+}
+
+// Whether the flags are those of the phase: not all while open, all when complete, none past the last block.
+#[tactic(auto, unfolding(crate::specs::Parts::flags_good, crate::specs::Receiver::none_from, foundation::specs::Order::all))]
+fn flags_good(phase: u8, blocks: usize, flags: [u8; FLAG_OCTETS]) -> bool
+    ensures { result ≡ flags_good phase blocks flags }
+{
+    let all = transactions::flags::all_below(flags, blocks);
+    let none_past = transactions::flags::none_from(flags, blocks);
+    if phase == 1 {
+        none_past && !all
+    } else if phase == 2 {
+        none_past && all
+    } else {
+        none_past
+    }
 }
 
 // Whether the receiver is one that there can be.
+#[tactic(auto, unfolding(crate::specs::Receiver::receiver_good, crate::specs::Receiver::all_held, crate::specs::Parts::flags_good, foundation::specs::Order::all))]
 pub fn is_good(rx: Receiver) -> bool
     ensures { result ≡ receiver_good rx }
 {
-    if !addresses::fits(rx.own) {
-        return false;
-    }
-    let phase = rx.phase;
-    if 2 < phase {
-        return false;
-    }
-    let t = rx.transaction;
-    if !fields_good(phase, t) {
-        return false;
-    }
-    let flags = rx.flags;
-    let blocks = t.blocks as usize;
-    if !transactions::flags::none_from(flags, blocks) {
-        return false;
-    }
-    let all = transactions::flags::all_below(flags, blocks);
-    if phase == 1 {
-        return !all;
-    }
-    if phase == 2 {
-        return all;
-    }
-    true
+    addresses::fits(rx.own)
+        && rx.phase <= 2
+        && fields_good(rx.phase, rx.transaction)
+        && flags_good(rx.phase, rx.transaction.blocks as usize, rx.flags)
 }

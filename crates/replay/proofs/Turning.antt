@@ -4,9 +4,8 @@ use Rattle.std.proofs.Common.{◌≡◌, ℕ, ◌^◌, ◌<◌, ◌≤◌, Bool,
 use lib.ListN.{length-replicate}
 use Rattle.foundation.proofs.OctetLists.{Octets, octets-zeros}
 use Rattle.addresses.specs.Octets.{address_at}
-use Rattle.receiver_state.specs.Receiver.{store_size, fresh_for}
+use Rattle.receiver_state.specs.Receiver.{store_size, Fresh, fresh_for}
 use Rattle.receiver_state.specs.declared.Receiver.{Receiver}
-use Rattle.receiver_state.specs.declared.Fresh.{Fresh}
 use Rattle.history.specs.History.{nothing}
 use Rattle.history.specs.Run.{State}
 use Rattle.history.proofs.Follows.{Follows, fresh_fits, fresh_follows}

@@ -2,7 +2,6 @@
 -- Assumes nothing.
 use mathlib.Core.Path.{◌≡◌, refl, sym, ap, ap₂, subst, ◌∙◌}
 use mathlib.Core.Bool.{Bool, true, false, cond}
-use mathlib.Core.Logic.{◌≢◌}
 use mathlib.Core.List.{List, [], ◌∷◌, ◌++◌, append-nil, append_assoc}
 use Prim.Native.Nat.{ℕ, suc, ◌+◌, ◌*◌, ◌-◌, ◌≤◌, ◌<◌}
 use native.Mathlib.Nat.{zero-add}
@@ -17,8 +16,11 @@ use Rattle.receiver_state.specs.declared.Receiver.{Receiver}
 use Rattle.texts.specs.Parts.{Wrote, AtMost}
 use Rattle.texts.proofs.Writing.{wrote_none, behind}
 use Rattle.history.specs.Run.{State}
-use Rattle.logs.specs.Log.{Record, record_of, line_of, after_record, line_size, line_in, record_number, state_of, recorded, record_store, record_line}
-use Rattle.logs.specs.declared.recording.Recorded.{Recorded}
+use Rattle.logs.specs.Log.{Record, record_of, line_of, after_record, line_size, line_in, record_number, state_of, recorded, recorded_given, record_store, record_line}
+use Rattle.std.specs.Prelude.{Ok, Err}
+use Rattle.foundation.specs.Refusals.{refusal_number}
+use Rattle.foundation.specs.declared.refusal.Refusal.{Refusal}
+use Rattle.foundation.proofs.Refusals.{ok_zero, ok_same, err_number, number_err}
 use Rattle.replays.specs.Log.{records, octets_taken}
 use Rattle.replays.specs.Text.{line_text, report_text, report_room}
 use Rattle.replays.specs.Replay.{line_given, left_by_record, lines_given, left_by_records}
@@ -32,46 +34,44 @@ module _ (rx : Receiver) (store : List ℕ) (r : Record) (line : List ℕ) (room
   unfolding record_number first_failed
   number_is = rw (eq-eqb (length store) store_size room, eq-eqb (length line) line_size size)
 
-  module _ (out : Recorded) (e : out ≡ recorded rx store r line) where
-    told : out.number ≡ cond (receiver_good rx) 0 1
-    unfolding recorded
-    told = ap (λ (x : Recorded). x.number) e ∙ number_is
+  module _ (store' line' : List ℕ) (es : store' ≡ record_store rx store r line) (el : line' ≡ record_line rx store r line) (text : List ℕ) (at end : ℕ)
+      (text' : List ℕ) where
+    abbrev Answered : Receiver → Type 0
+    Answered next = (state_of next store' ≡ left_by_record (state_of rx store) r) × AtMost report_room (line_text (line_given (state_of rx store) r)) text at end text'
 
-    good_told : out.number ≡ 0 → receiver_good rx ≡ true
-    good_told z = either (receiver_good rx) (λ t. t) (λ t. absurd (omega (arith, z, rw t at told)))
+    module _ (refusal : Refusal) (e : Err refusal ≡ recorded_given (recorded rx store r line)) where
+      bad_told : receiver_good rx ≡ false
+      unfolding recorded recorded_given
+      bad_told = either (receiver_good rx) (λ t. absurd (err_number _ _ refusal (sym e) (rw t at number_is))) (λ t. t)
 
-    bad_told : out.number ≢ 0 → receiver_good rx ≡ false
-    bad_told z = either (receiver_good rx) (λ t. absurd (z (rw t at told))) (λ t. t)
-
-    module _ (store' line' : List ℕ) (es : store' ≡ record_store rx store r line) (el : line' ≡ record_line rx store r line) (text : List ℕ) (at end : ℕ)
-        (text' : List ℕ) where
-      abbrev Answered : Type 0
-      Answered =
-          (state_of out.receiver store' ≡ left_by_record (state_of rx store) r) × AtMost report_room (line_text (line_given (state_of rx store) r)) text at end text'
-
-      pub refused-step : out.number ≢ 0 → AtMost report_room (code_text 0 (1 ∷ [])) text at end text' → Answered
-      unfolding recorded record_store left_by_record line_given code_text line_text
-      refused-step z w =
-          let bad = bad_told z in
+      pub refused-step : (told : ℕ) → told ≡ refusal_number refusal → AtMost report_room (code_text 0 (told ∷ [])) text at end text' → Answered rx
+      unfolding recorded recorded_given record_store left_by_record line_given code_text line_text
+      refused-step told is w =
+          let bad = bad_told in
           let n : record_number rx store line ≡ 1 = rw bad at number_is in
-          let same : out.receiver ≡ rx = ap (λ (x : Recorded). x.receiver) e ∙ rw n in
+          let number : told ≡ 1 = is ∙ number_err _ _ refusal (omega (arith, n)) (sym e) ∙ n in
           let kept : store' ≡ store = es ∙ rw n in
-          rw bad (ap₂ state_of same kept, w)
+          rw bad (ap (state_of rx) kept, subst (λ (k : ℕ). AtMost report_room (code_text 0 (k ∷ [])) text at end text') number w)
 
-      pub taken_step : out.number ≡ 0 → octets_line (line_in (line_of (state_of rx store) r)) ≡ line_text (line_of (state_of rx store) r)
-          → AtMost report_room (octets_line line') text at end text' → Answered
-      unfolding recorded record_store record_line left_by_record line_given
-      taken_step z spelled w =
-          let good = good_told z in
+    module _ (next : Receiver) (e : Ok next ≡ recorded_given (recorded rx store r line)) where
+      good_told : receiver_good rx ≡ true
+      unfolding recorded recorded_given
+      good_told = let n = ok_zero _ _ next (sym e) in either (receiver_good rx) (λ t. t) (λ t. absurd (omega (arith, n, rw t at number_is)))
+
+      pub taken_step : octets_line (line_in (line_of (state_of rx store) r)) ≡ line_text (line_of (state_of rx store) r)
+          → AtMost report_room (octets_line line') text at end text' → Answered next
+      unfolding recorded recorded_given record_store record_line left_by_record line_given
+      taken_step spelled w =
+          let good = good_told in
           let n : record_number rx store line ≡ 0 = rw good at number_is in
-          let next : out.receiver ≡ (after_record (state_of rx store) r).receiver = ap (λ (x : Recorded). x.receiver) e ∙ rw n in
+          let after : next ≡ (after_record (state_of rx store) r).receiver = sym (ok_same _ _ next (sym e)) ∙ rw n in
           let left : store' ≡ (after_record (state_of rx store) r).store = es ∙ rw n in
           let said : octets_line line' ≡ line_text (line_of (state_of rx store) r) = ap octets_line (el ∙ rw n) ∙ spelled in
-          rw good (ap₂ state_of next left, subst (λ (os : List ℕ). AtMost report_room os text at end text') said w)
+          rw good (ap₂ state_of after left, subst (λ (os : List ℕ). AtMost report_room os text at end text') said w)
 
-      pub store_told : out.number ≡ 0 → store' ≡ (after_record (state_of rx store) r).store
+      pub store_told : store' ≡ (after_record (state_of rx store) r).store
       unfolding record_store
-      store_told z = let n : record_number rx store line ≡ 0 = rw (good_told z) at number_is in es ∙ rw n
+      store_told = let n : record_number rx store line ≡ 0 = rw good_told at number_is in es ∙ rw n
 
 -- ---- part of the way through
 

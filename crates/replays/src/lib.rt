@@ -44,8 +44,7 @@ pub struct Replayed {
 pub fn start(own: &[u8]) -> Receiver
     ensures { result ≡ (fresh_for (address_at own.now 0)).receiver }
 {
-    let fresh = receiver_state::fresh_for(addresses::address_at(own, 0));
-    fresh.receiver
+    receiver_state::idle(addresses::address_at(own, 0))
 }
 
 // ---- text: each function writes at a place that has room, and says where it ends
@@ -197,19 +196,15 @@ fn answer(
         × AtMost report_room (line_text (line_given (state_of rx store.old) (record_of kind octets.now))) text.old at result.end text.new }
 {
     let mut line = [0u8; LINE];
-    let recorded = logs::recording::record(rx, store, kind, octets, &mut line);
-    let next = recorded.receiver;
-    if recorded.number != 0 {
-        let end = put_refusal(text, at, 1);
-        return LineEnd {
-            receiver: next,
-            end,
-        };
-    }
-    let end = put_line(text, at, &line);
-    LineEnd {
-        receiver: next,
-        end,
+    match logs::recording::record(rx, store, kind, octets, &mut line) {
+        Ok(receiver) => LineEnd {
+            receiver,
+            end: put_line(text, at, &line),
+        },
+        Err(refusal) => LineEnd {
+            receiver: rx,
+            end: put_refusal(text, at, refusal.number()),
+        },
     }
 }
 

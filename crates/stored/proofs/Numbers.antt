@@ -11,17 +11,19 @@ use lib.Dec.{eqb}
 use lib.ListN.{length, get_or, take, drop, length-drop}
 use lib.Seq.{take_all, length-take-le}
 use Rattle.addresses.specs.Octets.{number_at}
-use Rattle.addresses.specs.declared.RadioAddress.{RadioAddress}
+use Rattle.std.specs.Prelude.{Ok, Err}
 use Rattle.foundation.specs.Order.{first_failed, all}
+use Rattle.foundation.specs.Refusals.{outcome}
+use Rattle.foundation.specs.declared.refusal.Refusal.{Refusal}
+use Rattle.foundation.proofs.Refusals.{err_number, err_any}
 use Rattle.foundation.proofs.Tests.{either, last, not-true, choose, same_test}
 use Rattle.checks.specs.Checks.{header_good}
-use Rattle.foundation.proofs.Order.{all_nil, all_cons, all-at, all_fails, all_append, alike_first}
+use Rattle.foundation.proofs.Order.{all_nil, all_cons, all-at, all_append, alike_first}
 use Rattle.packets.proofs.Octets.{Octets}
 use Rattle.receiver_state.specs.Receiver.{store_size, receiver_good}
 use Rattle.receiver_state.specs.declared.Receiver.{Receiver}
-use Rattle.stored.specs.Stored.{stored_block, zeros_at, zero_part, saved, save_number, after_save, block0, block1, receiver_in, store_in, zeros_from, clear, layout_tests, restore_tests, restore_number, restored, after_restore}
+use Rattle.stored.specs.Stored.{stored_block, zeros_at, zero_part, saved, save_number, after_save, block0, block1, receiver_in, store_in, zeros_from, clear, layout_tests, restore_tests, restore_number, restored, restored_given, after_restore}
 use Rattle.stored.specs.Parts.{usable, marked, message_checked, layout_kept, blocks_number}
-use Rattle.stored.specs.declared.restoring.Restored.{Restored}
 
 -- ---- receivers and sizes
 
@@ -29,10 +31,6 @@ module _ (rx : Receiver) (store form : ℕ) where
   pub usable_sizes : usable rx store form ≡ true → (store ≡ store_size) × (form ≡ 2 * stored_block)
   unfolding usable
   usable_sizes e = (eqb-true store store_size (all-at _ 1 e), eqb-true form (2 * stored_block) (all-at _ 2 e))
-
-  pub not_usable : (i : ℕ) → get_or (receiver_good rx ∷ eqb store store_size ∷ eqb form (2 * stored_block) ∷ []) i true ≡ false → usable rx store form ≡ false
-  unfolding usable
-  not_usable = all_fails _
 
   pub form_usable : receiver_good rx ≡ true → store ≡ store_size → eqb form (2 * stored_block) ≡ usable rx store form
   unfolding usable all
@@ -84,42 +82,9 @@ module _ (a b : List ℕ) (rx : Receiver) (store : List ℕ) where
   abbrev others : List Bool
   others = receiver_good rx ∷ clear rx store store_size ∷ zeros_from b zeros_at zero_part ∷ message_checked rx store ∷ []
 
-  pub rule_broken : (i : ℕ) → get_or (marked a b ∷ others) i true ≡ false → false ≡ layout_kept a b rx store
-  unfolding layout_kept
-  rule_broken i e = sym (all_fails _ i e)
-
-  pub last_rule : marked a b ≡ true → receiver_good rx ≡ true → clear rx store store_size ≡ true → zeros_from b zeros_at zero_part ≡ true
-      → message_checked rx store ≡ layout_kept a b rx store
-  unfolding layout_kept all
-  last_rule m g k z = sym (rw (m, g, k, z) (sym (last (message_checked rx store))))
-
   layout_first : (us : List (Bool × ℕ)) → first_failed (layout_tests a b rx store ++ us) ≡ cond (layout_kept a b rx store) (first_failed us) 18
   unfolding layout_tests layout_kept marked message_checked all
   layout_first us = alike_first 18 (marks ++ others) us ∙ ap (λ (t : Bool). cond t (first_failed us) 18) (all_append marks others)
-
--- ---- the numbers of two blocks, in their order
-
-module _ (own : RadioAddress) (a b : List ℕ) (rx : Receiver) (store : List ℕ) where
-  abbrev number : ℕ
-  number = blocks_number own a b rx store
-
-  pub check0_bad : header_good 0 a ≡ false → 17 ≡ number
-  unfolding blocks_number first_failed
-  check0_bad h = sym (rw h)
-
-  module _ (h0 : header_good 0 a ≡ true) where
-    pub check1_bad : header_good 0 b ≡ false → 17 ≡ number
-    unfolding blocks_number first_failed
-    check1_bad h = sym (rw (h0, h))
-
-    module _ (h1 : header_good 0 b ≡ true) where
-      pub layout_broken : layout_kept a b rx store ≡ false → 18 ≡ number
-      unfolding blocks_number first_failed
-      layout_broken k = sym (rw (h0, h1, k))
-
-      pub by_address : layout_kept a b rx store ≡ true → cond (eqb rx.own.0 own.0) 0 19 ≡ number
-      unfolding blocks_number first_failed
-      by_address k = sym (rw (h0, h1, k))
 
 -- ---- restoring
 
@@ -153,9 +118,13 @@ module _ (rx : Receiver) (form store : List ℕ) where
       ∙ rw (layout_first a b (receiver_in a) (store_in a b))
 
   pub restored-refused : (n : ℕ) → n ≡ restore_number rx form store → n ≢ 0
-      → (◌≡◌ {A = Restored} (record { number = n; receiver = rx }) (restored rx form store)) × (store ≡ after_restore rx form store)
-  unfolding restored after_restore
+      → (outcome n rx ≡ restored_given (restored rx form store)) × (store ≡ after_restore rx form store)
+  unfolding restored restored_given after_restore
   restored-refused n e d = let f : eqb (restore_number rx form store) 0 ≡ false = ne_eqb _ _ (λ z. d (e ∙ z)) in (rw (f, ← e), rw f)
+
+  pub restored-err : (n : ℕ) → n ≡ restore_number rx form store → (r : Refusal) → outcome {A = Unit {0}} n tt ≡ Err r
+      → (Err r ≡ restored_given (restored rx form store)) × (store ≡ after_restore rx form store)
+  restored-err n e r o = let p = restored-refused n e (err_number {A = Unit {0}} n tt r o) in (sym (err_any {A = Unit {0}} n tt rx r o) ∙ p.0, p.1)
 
   pub number_1 : usable rx (length store) (length form) ≡ false → 1 ≡ restore_number rx form store
   number_1 u = sym (number_steps ∙ rw u)
@@ -171,8 +140,8 @@ module _ (rx : Receiver) (form store : List ℕ) where
     number_read n e = e ∙ sym (number_steps ∙ rw (u, is-r, is-os, is-a, is_b))
 
     pub restored-taken : restore_number rx form store ≡ 0
-        → (◌≡◌ {A = Restored} (record { number = 0; receiver = r }) (restored rx form store)) × (os ≡ after_restore rx form store)
-    unfolding restored after_restore
+        → (Ok r ≡ restored_given (restored rx form store)) × (os ≡ after_restore rx form store)
+    unfolding restored restored_given after_restore outcome
     restored-taken e = (rw (e, is-r, is-a), rw (e, is-os, is-a, is_b))
 
 -- ---- saving

@@ -1,17 +1,17 @@
 -- What a stored form holds, octet by octet, and octets compared.
 -- Assumes nothing.
-use mathlib.Core.Path.{◌≡◌, refl, sym, ap, ap₂, ◌∙◌}
+use mathlib.Core.Path.{◌≡◌, refl, sym, ap, ap₂, subst, ◌∙◌}
 use mathlib.Core.Bool.{Bool, true, false, cond}
 use mathlib.Core.List.{List}
-use mathlib.Core.Logic.{◌≢◌}
 use Prim.Native.Nat.{ℕ, ◌+◌, ◌/◌, ◌≤◌, ◌<◌}
 use native.Mathlib.Nat.{zero-add}
-use native.Mathlib.Numerals.{add-one}
 use native.Mathlib.Omega.{arith}
-use borrow.Author.Tests.{eq-eqb, ne_eqb, eqb-true}
+use borrow.Author.Tests.{eq-eqb, eqb-true}
 use lib.Dec.{eqb}
 use lib.ListN.{length, get_or, take, drop, replicate, length-append, length-drop}
-use lib.Seq.{length-take-le, get_or-take, get_or-drop}
+use lib.Seq.{length-take-le, get_or-take, get_or-drop, ext_get_or}
+use Rattle.std.specs.Cmp.Lexicographic.{pointwise, same_text}
+use Rattle.std.proofs.lemmas.Cmp.{nat_list_eq_equiv}
 use Rattle.addresses.specs.Octets.{address_at}
 use Rattle.addresses.specs.declared.RadioAddress.{RadioAddress}
 use Rattle.foundation.specs.Bits.{tabulate}
@@ -19,7 +19,9 @@ use Rattle.foundation.proofs.Runs.{tabulated}
 use Rattle.foundation.specs.Octets.{put}
 use Rattle.foundation.proofs.Copying.{put_all, put_both}
 use Rattle.foundation.proofs.Filling.{get_d_zeros}
-use Rattle.foundation.proofs.Tests.{every_ext, same_test}
+use Rattle.foundation.specs.Order.{every}
+use Rattle.foundation.proofs.Every.{every_held}
+use Rattle.foundation.proofs.Tests.{every_ext, every_true, same_test}
 use Rattle.messages.specs.Messages.{block_size}
 use Rattle.transactions.specs.Flags.{flag_octet_count}
 use Rattle.receiver_state.specs.Receiver.{store_size, held}
@@ -73,14 +75,16 @@ module _ (a b : List ℕ) (size-a : length a ≡ stored_block) (size-b : length 
 
 -- ---- octets compared
 
-module _ (a b : List ℕ) (i : ℕ) where
-  pub same_stop : get_or a i 0 ≢ get_or b i 0 → false ≡ same_octets a b (i + 1)
+-- what `==` tells of two lists of one length
+module _ (a b : List ℕ) where
+  pub same_lists : length b ≡ length a → pointwise eqb a b ≡ same_octets a b (length a)
   unfolding same_octets
-  same_stop e = sym (rw (add-one i, ne_eqb _ _ e))
-
-  pub same_go : get_or a i 0 ≡ get_or b i 0 → same_octets a b i ≡ same_octets a b (i + 1)
-  unfolding same_octets
-  same_go e = sym (rw (add-one i, eq-eqb _ _ e))
+  same_lists size =
+      same_test (pointwise eqb a b) (every (length a) (λ i. eqb (get_or a i 0) (get_or b i 0)))
+      (λ e. every_true (length a) (λ i. eqb (get_or a i 0) (get_or b i 0)) (λ i l. eq-eqb (get_or a i 0) (get_or b i 0) (ap (λ (os : List ℕ). get_or os i 0) (same_text a b (sym e)))))
+      (λ e. subst (λ (os : List ℕ). pointwise eqb a os ≡ true)
+      (ext_get_or 0 a b (sym size) (λ i l. eqb-true (get_or a i 0) (get_or b i 0) (every_held (λ i. eqb (get_or a i 0) (get_or b i 0)) (length a) e i l)))
+      (nat_list_eq_equiv.refl a))
 
 -- octets that are zero
 pub zeros-same : (os : List ℕ) (at n : ℕ) → at + n ≤ length os

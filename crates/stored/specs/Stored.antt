@@ -1,16 +1,17 @@
 -- The stored form of a receiver and its message store: 1,024 octets in two blocks of 512.
 -- Assumes nothing.
-use Rattle.std.specs.Prelude.{Bool, true, cond, List, [], ◌∷◌, ◌++◌, ℕ, zero, suc, ◌+◌, ◌*◌, ◌-◌, ◌/◌, ◌%◌, eqb, length, get_or, take, drop, replicate}
+use Rattle.std.specs.Prelude.{Result, Bool, true, cond, List, [], ◌∷◌, ◌++◌, ℕ, zero, suc, ◌+◌, ◌*◌, ◌-◌, ◌/◌, ◌%◌, eqb, length, get_or, take, drop, replicate}
 use Rattle.addresses.specs.Octets.{address_at, three_octets}
 use Rattle.addresses.specs.declared.RadioAddress.{RadioAddress}
 use Rattle.foundation.specs.Order.{first_failed, every}
+use Rattle.foundation.specs.Refusals.{outcome}
+use Rattle.foundation.specs.declared.refusal.Refusal.{Refusal}
 use Rattle.checks.specs.Checks.{header_check, header_good, message_good}
 use Rattle.messages.specs.Messages.{block_size}
 use Rattle.transactions.specs.Flags.{flag_octet_count, flagged}
 use Rattle.transactions.specs.declared.header.Transaction.{Transaction}
 use Rattle.receiver_state.specs.Receiver.{store_size, held, receiver_good}
 use Rattle.receiver_state.specs.declared.Receiver.{Receiver}
-use Rattle.stored.specs.declared.restoring.Restored.{Restored}
 
 -- octets of a stored block, of those before its check, of the store in block 0 and in block 1, and the zeros that follow these
 abbrev pub stored_block : ℕ
@@ -128,6 +129,14 @@ restore_tests rx form store =
 
 unfoldable pub restore_number : Receiver → List ℕ → List ℕ → ℕ
 restore_number rx form store = first_failed (restore_tests rx form store)
+
+-- number 0 and the receiver restored, or the number of the refusal and the receiver as it was
+pub record Restored : Type 0 where
+  pub number : ℕ
+  pub receiver : Receiver
+
+unfoldable pub restored_given : Restored → Result Receiver Refusal
+restored_given r = outcome r.number r.receiver
 
 -- the receiver beside the number, and the store: as stored, or on a refusal as they were
 unfoldable pub restored : Receiver → List ℕ → List ℕ → Restored

@@ -16,16 +16,11 @@ pub mod restoring;
 pub mod saving;
 
 // Whether there can be such a receiver, and store and stored form have their sizes.
+#[tactic(auto, unfolding(crate::specs::Parts::usable, foundation::specs::Order::all))]
 fn usable(rx: Receiver, store: usize, form: usize) -> bool
     ensures { result ≡ usable·receiver rx store form }
 {
-    if !receiver_state::is_good(rx) {
-        return false;
-    }
-    if store != STORE {
-        return false;
-    }
-    form == FORM
+    receiver_state::is_good(rx) && store == STORE && form == FORM
 }
 
 // The store with zeros for the octets of blocks not held: a copy of whole blocks.
@@ -34,14 +29,12 @@ fn held_store(flags: [u8; FLAG_OCTETS], store: &[u8]) -> [u8; STORE]
     ensures { result ≡ held_octets (flagged flags) (λ i. get_or store.now i 0) 0 store_size }
 {
     let mut held = [0u8; STORE];
-    let mut n: usize = 0;
-    while n < MOST_BLOCKS {
+    for n in 0..MOST_BLOCKS {
         if transactions::flags::is_set(flags, n) {
             let at = BLOCK * n;
             let end = at + BLOCK;
             foundation::octets::put(&mut held, at, &store[at..end]);
         }
-        n += 1;
     }
     held
 }

@@ -1,23 +1,18 @@
 // Restoring a receiver from its stored form.
-ghost use Rattle.std.specs.Prelude.{◌≡◌, true, cond, eqb, length};
+ghost use Rattle.std.specs.Prelude.{◌≡◌, true, length};
+ghost use Rattle.foundation.specs.Refusals.{outcome};
 ghost use Rattle.receiver_state.specs.Receiver.{store_size, receiver_good};
-ghost use Rattle.stored.specs.Stored.{stored_block, zeros_at, zero_part, receiver_in, store_in, zeros_from, clear, restored, after_restore};
+ghost use Rattle.stored.specs.Stored.{stored_block, zeros_at, zero_part, receiver_in, store_in, zeros_from, clear, restored, restored_given, after_restore};
 ghost use Rattle.stored.specs.Claims.{SavesBack};
 ghost use Rattle.stored.specs.Parts.{marked, same_octets, message_checked, layout_kept, blocks_number};
 
 use crate::saving::{CHECKED, FIRST_PART, STORE_AT_0, STORE_AT_1, STORED_BLOCK, ZEROS, ZEROS_AT};
 use addresses::RadioAddress;
+use foundation::refusal::Refusal;
 use messages::message::BLOCK;
 use receiver_state::{Receiver, STORE};
 use transactions::flags::FLAG_OCTETS;
 use transactions::header::Transaction;
-
-// Number 0 and the receiver restored, or the number of the refusal and the receiver as it was.
-#[derive(Clone, Copy)]
-pub struct Restored {
-    pub number: u8,
-    pub receiver: Receiver,
-}
 
 // ---- what a stored form holds
 
@@ -65,26 +60,15 @@ fn is_marked(a: &[u8], b: &[u8]) -> bool
     let first = addresses::number_at(a, 0);
     let second = addresses::number_at(b, 0);
     let stamp = first % 0x1_0000;
-    if first != 0x100_0000 + stamp {
-        return false;
-    }
-    second == 0x101_0000 + stamp
+    first == 0x100_0000 + stamp && second == 0x101_0000 + stamp
 }
 
-// Whether two runs of octets are the same. There is no early way out, so that many octets are compared at once.
+// Whether two runs of octets are the same.
 fn is_same(a: &[u8], b: &[u8]) -> bool
     requires { length b.now ≡ length a.now }
     ensures { result ≡ same_octets a.now b.now (length a.now) }
 {
-    let mut same = true;
-    let mut i: usize = 0;
-    while i < a.len() {
-        if a[i] != b[i] {
-            same = false;
-        }
-        i += 1;
-    }
-    same
+    a == b
 }
 
 // Whether the octets of blocks not held are zero.
@@ -92,9 +76,7 @@ fn is_clear(rx: Receiver, store: &[u8]) -> bool
     requires { length store.now ≡ store_size }
     ensures { result ≡ clear rx store.now store_size }
 {
-    let flags = rx.flags;
-    let held = crate::held_store(flags, store);
-    is_same(&held, store)
+    is_same(&crate::held_store(rx.flags, store), store)
 }
 
 // Whether the octets behind the store are zero.
@@ -102,8 +84,7 @@ fn ends_in_zeros(b: &[u8]) -> bool
     requires { length b.now ≡ stored_block }
     ensures { result ≡ zeros_from b.now zeros_at zero_part }
 {
-    let zeros = [0u8; ZEROS];
-    is_same(&b[ZEROS_AT..CHECKED], &zeros)
+    is_same(&b[ZEROS_AT..CHECKED], &[0u8; ZEROS])
 }
 
 // Whether the message check is good, if the transaction is complete.
@@ -111,89 +92,63 @@ fn is_checked(rx: Receiver, store: &[u8]) -> bool
     requires { (receiver_good rx ≡ true) × (length store.now ≡ store_size) }
     ensures { result ≡ message_checked rx store.now }
 {
-    if rx.phase != 2 {
-        return true;
-    }
-    let t = rx.transaction;
-    let size = BLOCK * (t.blocks as usize);
-    checks::message_good(&store[..size])
+    let size = BLOCK * (rx.transaction.blocks as usize);
+    rx.phase != 2 || checks::message_good(&store[..size])
 }
 
 // Whether every rule of the layout is kept.
+#[tactic(auto, unfolding(crate::specs::Parts::layout_kept, foundation::specs::Order::all))]
 fn layout_kept(a: &[u8], b: &[u8], rx: Receiver, store: &[u8]) -> bool
     requires { (length b.now ≡ stored_block) × (length store.now ≡ store_size) }
     ensures { result ≡ layout_kept a.now b.now rx store.now }
 {
-    if !is_marked(a, b) {
-        return false;
-    }
-    if !receiver_state::is_good(rx) {
-        return false;
-    }
-    if !is_clear(rx, store) {
-        return false;
-    }
-    if !ends_in_zeros(b) {
-        return false;
-    }
-    is_checked(rx, store)
+    is_marked(a, b)
+        && receiver_state::is_good(rx)
+        && is_clear(rx, store)
+        && ends_in_zeros(b)
+        && is_checked(rx, store)
 }
 
 // ---- restoring
 
-// 19 for a stored address that is not the own one, else 0.
-fn address_number(own: RadioAddress, stored: RadioAddress) -> u8
-    ensures { result ≡ cond (eqb stored.0 own.0) 0 19 }
-{
-    if stored.0 != own.0 {
-        return 19;
-    }
-    0
-}
-
-// The number of two blocks and what was read in them: 17, 18, 19, or 0 for none.
-fn number_of(own: RadioAddress, a: &[u8], b: &[u8], read: Receiver, store: &[u8]) -> u8
+// Two blocks, and what was read in them: refused where a check fails, the layout is broken, or the address is not the own one.
+#[tactic(auto, unfolding(crate::specs::Parts::blocks_number, foundation::specs::Order::first_failed, foundation::specs::Refusals::outcome, foundation::specs::Refusals::refusal))]
+fn check_blocks(
+    own: RadioAddress,
+    a: &[u8],
+    b: &[u8],
+    read: Receiver,
+    store: &[u8],
+) -> Result<(), Refusal>
     requires { (length b.now ≡ stored_block) × (length store.now ≡ store_size) }
-    ensures { result ≡ blocks_number own a.now b.now read store.now }
+    ensures { result ≡ outcome (blocks_number own a.now b.now read store.now) tt }
 {
-    if !checks::header_good(0, a) {
-        return 17;
-    }
-    if !checks::header_good(0, b) {
-        return 17;
+    if !(checks::header_good(0, a) && checks::header_good(0, b)) {
+        return Err(Refusal::StoredCheck);
     }
     if !layout_kept(a, b, read, store) {
-        return 18;
+        return Err(Refusal::StoredLayout);
     }
-    address_number(own, read.own)
+    if read.own.0 != own.0 {
+        return Err(Refusal::OtherAddress);
+    }
+    Ok(())
 }
 
-// Restores a receiver and its store from any octets; a refusal leaves both as they were.
-pub fn restore(rx: Receiver, form: &[u8], store: &mut [u8]) -> Restored
-    ensures { (result ≡ restored rx form.now store.old)
+// Restores a receiver and its store from any octets; a refusal leaves the store as it was.
+pub fn restore(rx: Receiver, form: &[u8], store: &mut [u8]) -> Result<Receiver, Refusal>
+    ensures { (result ≡ restored_given (restored rx form.now store.old))
         × (store.new ≡ after_restore rx form.now store.old)
         × SavesBack rx form.now store.old }
 {
     if !crate::usable(rx, store.len(), form.len()) {
-        return Restored {
-            number: 1,
-            receiver: rx,
-        };
+        return Err(Refusal::Size);
     }
     let a = &form[..STORED_BLOCK];
     let b = &form[STORED_BLOCK..];
     let receiver = receiver_in(a);
     let octets = store_in(a, b);
-    let number = number_of(rx.own, a, b, receiver, &octets);
-    if number != 0 {
-        return Restored {
-            number,
-            receiver: rx,
-        };
-    }
+    check_blocks(rx.own, a, b, receiver, &octets)?;
     foundation::octets::put(store, 0, &octets);
-    Restored {
-        number: 0,
-        receiver,
-    }
+    Ok(receiver)
 }

@@ -4,7 +4,9 @@ ghost use Rattle.checks.specs.Checks.{header_check};
 ghost use Rattle.stored.specs.Stored.{stored_block, checked_size, head0, save_number, after_save};
 ghost use Rattle.stored.specs.Claims.{Savable, Restores};
 ghost use Rattle.foundation.specs.Octets.{put};
+ghost use Rattle.foundation.specs.Refusals.{outcome};
 
+use foundation::refusal::Refusal;
 use receiver_state::{Receiver, STORE};
 
 // Octets of a stored block, of a stored form, and of a block before its check.
@@ -54,17 +56,16 @@ fn head(rx: Receiver, s0: u8, s1: u8) -> [u8; 23]
     ]
 }
 
-// The stored form of a receiver and its store, with a stamp of two octets; 1 for a receiver that there can't be or another size.
-pub fn save(rx: Receiver, store: &[u8], s0: u8, s1: u8, form: &mut [u8]) -> u8
-    ensures { (result ≡ save_number rx store.now form.old)
+// The stored form of a receiver and its store, with a stamp of two octets; refused for a receiver that there can't be or another size.
+pub fn save(rx: Receiver, store: &[u8], s0: u8, s1: u8, form: &mut [u8]) -> Result<(), Refusal>
+    ensures { (result ≡ outcome (save_number rx store.now form.old) tt)
         × (form.new ≡ after_save rx store.now s0 s1 form.old)
         × (Savable rx store.now → Restores rx store.now s0 s1) }
 {
     if !crate::usable(rx, store.len(), form.len()) {
-        return 1;
+        return Err(Refusal::Size);
     }
-    let flags = rx.flags;
-    let held = crate::held_store(flags, store);
+    let held = crate::held_store(rx.flags, store);
     let first = head(rx, s0, s1);
     foundation::octets::put(form, 0, &first);
     foundation::octets::put(form, STORE_AT_0, &held[..FIRST_PART]);
@@ -75,5 +76,5 @@ pub fn save(rx: Receiver, store: &[u8], s0: u8, s1: u8, form: &mut [u8]) -> u8
     let zeros = [0u8; ZEROS];
     foundation::octets::put(form, STORED_BLOCK + ZEROS_AT, &zeros);
     check_at(form, STORED_BLOCK);
-    0
+    Ok(())
 }

@@ -5,4 +5,4 @@ use Rattle.forms.proofs.on_block.Goals as goal
 
 pub returns : goal.returns
 returns c =
-    block_acts _ _ _ _ _ _ _ _ _ c.size_number.ensures c.on_record.ensures
+    block_acts _ _ _ _ _ _ _ _ _ c.sized.ensures c.on_record.ensures

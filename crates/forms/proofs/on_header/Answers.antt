@@ -5,4 +5,4 @@ use Rattle.forms.proofs.on_header.Goals as goal
 
 pub returns : goal.returns
 returns c =
-    header_acts _ _ _ _ _ _ _ _ _ c.size_number.ensures c.on_record.ensures
+    header_acts _ _ _ _ _ _ _ _ _ c.sized.ensures c.on_record.ensures

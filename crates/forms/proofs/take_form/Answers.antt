@@ -6,8 +6,7 @@ use Rattle.forms.proofs.take_form.Goals as goal
 pub returns : goal.returns
 returns c =
     let a = c.args in
-    let own = c.address_at-own in
-    let fresh = c.fresh_for-fresh in
+    let own = c.address_at in
+    let fresh = c.idle-fresh in
     let r = c.restore in
-    fresh_taken a.form.now (λ i. (c.type_inv.form i).fits) own.result own.ensures fresh.result fresh.ensures a.store.now c.requires
-    r.result _ r.ensures.0 r.ensures.1
+    fresh_taken a.form.now own.result own.ensures fresh.result fresh.ensures a.store.now c.requires r.result _ r.ensures.0 r.ensures.1

@@ -1,6 +1,6 @@
 -- `stored::held_store` meets its contract: of the first n blocks those held are copied.
 -- Assumes nothing.
-use Prim.Native.Nat.{◌-◌, ◌≤◌}
+use Prim.Native.Nat.{◌≤◌}
 use Rattle.messages.specs.Messages.{most_blocks}
 use Rattle.transactions.specs.Flags.{flagged}
 use Rattle.stored.proofs.HeldStore.{BlocksCopied}
@@ -8,6 +8,3 @@ use Rattle.stored.proofs.held_store.Given as goal
 
 abbrev pub invariant-loop-n : goal.invariant-loop-n
 invariant-loop-n l = (l.n ≤ most_blocks) × BlocksCopied (flagged l.flags) l.store l.n l.held
-
-abbrev pub decreases-loop-n : goal.decreases-loop-n
-decreases-loop-n l = most_blocks - l.n

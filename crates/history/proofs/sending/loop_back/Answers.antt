@@ -23,7 +23,7 @@ returns-then-header-ne0 c = let a = c.args in
 pub loop-n-init : goal.loop-n-init
 loop-n-init c = let a = c.args in
     let w = c.full_header-header in
-    let f = c.fresh_for-fresh in
+    let f = c.idle-first in
     let r = c.on_header-opened in
     let t = header-taken (length a.message.now) a.d (sym (number w.ensures) ∙ c.if-header-ne0.false) in
     looping_none a.message.now a.d a.store.now c.if-store-ne-STORE.false t f.result w.result r.result f.ensures w.ensures r.ensures.0

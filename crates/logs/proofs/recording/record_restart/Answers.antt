@@ -6,11 +6,9 @@ use native.Mathlib.Omega.{arith}
 use lib.ListN.{length, drop, length-drop}
 use lib.Seq.{take_all}
 use Rattle.foundation.proofs.Copying.{put_all}
-use Rattle.receiver_state.specs.declared.Fresh.{Fresh}
-use Rattle.stored.specs.declared.restoring.Restored.{Restored}
 use Rattle.history.specs.Run.{saved_form}
 use Rattle.logs.specs.Log.{code_of, contents_of, line_octets, line_in, line_of}
-use Rattle.logs.proofs.OneRecord.{fresh_of, form_of, restart-leaves}
+use Rattle.logs.proofs.OneRecord.{form_of, restart-leaves}
 use Rattle.logs.proofs.recording.record_restart.Goals as goal
 
 pub returns : goal.returns
@@ -19,9 +17,8 @@ returns c =
     let a = c.args in
     let os = a.octets.now in
     let form = c.save.ensures.1 ∙ form_of a.rx c.requires.0 a.store.now _ _ _ c.requires.2 (omega arith) in
-    let fresh = ap (λ (f : Fresh). f.receiver) (c.fresh_for-fresh.ensures ∙ fresh_of a.rx c.requires.0) in
     let rest = take_all (length os - 2) (drop 2 os) (omega (arith, length-drop 2 os)) in
     let other = c.put-2.ensures ∙ put_all a.store.now _ (ap length rest ∙ length-drop 2 os ∙ omega (arith, c.requires.2, c.requires.3)) ∙ rest in
-    let left = restart-leaves a.rx a.store.now os _ _ _ fresh form other in
-    let r = c.restore-restored.ensures in
-    (ap (λ (x : Restored). x.receiver) r.0 ∙ left.0, r.1 ∙ left.1, c.put.ensures ∙ ap (line_octets 7) form)
+    let r = c.restore.ensures in
+    let left = restart-leaves a.rx a.store.now os _ _ _ c.idle-fresh.ensures form other _ r.0 in
+    (c.unwrap_or.ensures ∙ left.0, r.1 ∙ left.1, c.put.ensures ∙ ap (line_octets 7) form)

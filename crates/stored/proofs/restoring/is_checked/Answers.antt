@@ -17,6 +17,6 @@ slice_bounds-message_good-end c =
     let st = c in
     sym (length-take-le _ _ (omega (arith, st.requires.1, (fits st.args.rx st.requires.0).1)))
 
-pub returns : goal.returns
+pub returns-else-rx-ne2 : goal.returns-else-rx-ne2
 unfolding message_checked
-returns c = c.message_good.ensures ∙ rw (eq-eqb _ 2 c.if-rx-ne2.false)
+returns-else-rx-ne2 c = c.message_good.ensures ∙ rw (eq-eqb _ 2 c.if-rx-ne2.false)
