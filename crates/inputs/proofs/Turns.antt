@@ -16,17 +16,17 @@ use Rattle.inputs.specs.Inputs.{ReadBehind, ReadAndWritten}
 use Rattle.inputs.specs.Parts.{Continues, Answers, Underway}
 use Rattle.inputs.specs.declared.Reading.{Reading}
 
-length_none : (l : List ℕ) → length l ≤ 0 → l ≡ []
+pub length_none : (l : List ℕ) → length l ≤ 0 → l ≡ []
 length_none [] h = refl
 length_none (x ∷ l) h = absurd (not-suc-le-zero h)
 
 module _ {S : Type 0} (text : S → List ℕ → List ℕ) (first : S) where
-  pub underway_start : Underway text first 0 0 false first []
+  unfoldable pub underway_start : Underway text first 0 0 false first []
   underway_start = record { read = []; written = []; octets-read = octets-zeros 0; as_many = refl; so_long = refl; goes_on = λ more e. refl }
 
   module _ (octets letters : ℕ) (ended : Bool) (now : S) (rest : List ℕ) (u : Underway text first octets letters ended now rest) where
     -- octets are answered
-    pub underway_answered : (more kept : ℕ) (now' : S) (rest' : List ℕ) → Answers text now rest ended more kept now' rest' → (letters' : ℕ)
+    unfoldable pub underway_answered : (more kept : ℕ) (now' : S) (rest' : List ℕ) → Answers text now rest ended more kept now' rest' → (letters' : ℕ)
         → letters' ≡ (letters + more) % 2 ^ 64 → Underway text first octets letters' ended now' rest'
     underway_answered more kept now' rest' a letters' e = record {
       read = u.read;
@@ -53,7 +53,7 @@ module _ {S : Type 0} (text : S → List ℕ → List ℕ) (first : S) where
 
   -- octets are read
   module _ (octets letters : ℕ) (now : S) (rest : List ℕ) (u : Underway text first octets letters false now rest) where
-    underway_more : (new : List ℕ) → Octets new → (ended : Bool) → (ended ≡ true → new ≡ []) → (octets' : ℕ) → octets' ≡ (octets + length new) % 2 ^ 64
+    unfoldable pub underway_more : (new : List ℕ) → Octets new → (ended : Bool) → (ended ≡ true → new ≡ []) → (octets' : ℕ) → octets' ≡ (octets + length new) % 2 ^ 64
         → Underway text first octets' letters ended now (rest ++ new)
     underway_more new small ended none octets' e = record {
       read = u.read ++ new;
@@ -66,7 +66,7 @@ module _ {S : Type 0} (text : S → List ℕ → List ℕ) (first : S) where
     }
 
 -- a turn: some octets are taken, their text stands in front of what is lent for it, and the others are kept
-pub turn : {S : Type 0} (text : S → List ℕ → List ℕ) (s s' : S) (os : List ℕ) (last : Bool) (lent : List ℕ) (end taken kept : ℕ) (rest : List ℕ)
+unfoldable pub turn : {S : Type 0} (text : S → List ℕ → List ℕ) (s s' : S) (os : List ℕ) (last : Bool) (lent : List ℕ) (end taken kept : ℕ) (rest : List ℕ)
     → end ≤ length lent → Continues text s os last (take end lent) s' (drop taken os) → taken ≤ length os → (last ≡ true → taken ≡ 0 → length os ≡ 0)
     → kept ≡ length os - taken → rest ≡ drop taken os → Answers text s os last end kept s' rest
 turn text s s' os last lent end taken kept rest fits on within some ek er = record {
@@ -80,13 +80,13 @@ turn text s s' os last lent end taken kept rest fits on within some ek er = reco
 -- what there is after a reading: what there was, and the new octets behind it
 module _ (input : List ℕ) (size : ℕ) (r : Reading) (input' : List ℕ) (b : ReadBehind input size r input') (inside : size ≤ length input)
     (room : length input' ≡ length input) where
-  abbrev new : List ℕ
+  abbrev pub new : List ℕ
   new = drop size (take r.size input')
 
-  length_new : length new ≡ r.size - size
+  pub length_new : length new ≡ r.size - size
   length_new = length-drop size (take r.size input') ∙ ap (λ (n : ℕ). n - size) (length-take-le r.size input' (omega (arith, b.inside inside, room)))
 
-  behind_rest : take size input ++ new ≡ take r.size input'
+  pub behind_rest : take size input ++ new ≡ take r.size input'
   behind_rest =
       ap (λ (x : List ℕ). x ++ new) (sym b.kept ∙ sym (take-take size r.size input' b.behind)) ∙ take-append-drop size (take r.size input')
 

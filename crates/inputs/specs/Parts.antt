@@ -1,6 +1,8 @@
 -- What the loops of programs keep to, and what a turn of them gives: nothing that a reader has to believe.
 -- Assumes nothing.
 use Rattle.std.specs.Prelude.{◌≡◌, Bool, true, List, [], ◌++◌, ℕ, ◌%◌, ◌^◌, ◌≤◌, ◌<◌, length, get_or}
+use Rattle.std.specs.Io.KnownBytes.{Appends, Consumes, IsAtEnd}
+use Rattle.std.specs.declared.option.Option.{Option}
 
 -- whatever follows, or nothing where nothing can: the text of what was read and follows is what was written, and then the text, from now on, of
 -- the rest and of what follows
@@ -24,3 +26,13 @@ pub record Underway {S : Type 0} (text : S → List ℕ → List ℕ) (first : S
   pub as_many : length read % 2 ^ 64 ≡ octets
   pub so_long : length written % 2 ^ 64 ≡ letters
   pub goes_on : Continues text first read ended written now rest
+
+-- the same of a reader and a writer, where it is known which octets are left to read and which the writer holds: a turn that is written whole
+abbrev pub AnswersTo : {S : Type 0} → (S → List ℕ → List ℕ) → S → List ℕ → Bool → ℕ → ℕ → S → List ℕ → Bool → Option (List ℕ) → Option (List ℕ) → Type 0
+AnswersTo text first octets ended letters kept now rest written to to' =
+    (a : Answers text first octets ended letters kept now rest) × (written ≡ true → Appends to to' a.line)
+
+-- and some turns
+abbrev pub Between : {S : Type 0} → (S → List ℕ → List ℕ) → S → ℕ → ℕ → Bool → S → List ℕ → Option (List ℕ) → Option (List ℕ) → Option (List ℕ) → Option (List ℕ) → Type 0
+Between text first octets letters ended now rest from from' to to' =
+    (u : Underway text first octets letters ended now rest) × Consumes from from' u.read × Appends to to' u.written × (ended ≡ true → IsAtEnd from')

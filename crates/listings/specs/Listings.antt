@@ -1,6 +1,8 @@
 -- A capture on standard input, listed on standard output.
 -- Assumes nothing.
-use Rattle.std.specs.Prelude.{◌≡◌, ℕ, true, cond, List, [], ◌++◌, length, replicate, nat_lt}
+use Rattle.std.specs.Prelude.{◌≡◌, ℕ, true, cond, List, [], ◌++◌, IfSome, length, replicate, nat_lt}
+use Rattle.std.specs.Io.KnownBytes.{Appends}
+use Rattle.std.specs.declared.option.Option.{Option}
 use Rattle.addresses.specs.Octets.{address_at}
 use Rattle.receiver_state.specs.Receiver.{store_size}
 use Rattle.history.specs.History.{nothing}
@@ -27,3 +29,7 @@ listing_of l own os =
 -- a run that says that it came to the end of the input and wrote all: the text is that of what was read behind the own address, as counted
 abbrev pub WritesListing : Listing → List ℕ → Ended → Type 0
 WritesListing l own r = r.whole ≡ true → ReadAndWritten (listing_of l) own r.read r.written
+
+-- and where it is known which octets the reader has left and which the writer holds: the writer holds as many more as the text of all of them is
+abbrev pub ListsKnown : Listing → List ℕ → Ended → Option (List ℕ) → Option (List ℕ) → Option (List ℕ) → Type 0
+ListsKnown l own r from to to' = r.whole ≡ true → IfSome from (λ os. Appends to to' (listing_of l own os))

@@ -1,10 +1,11 @@
 // A capture that is read, listed as it comes: what the programs gateway and delivered have in common.
 #![tactic(auto)]
 
-ghost use Rattle.std.specs.Prelude.{◌≡◌, ◌+◌, ◌%◌, ◌^◌, ◌≤◌, false, length};
+ghost use Rattle.std.specs.Prelude.{◌≡◌, ◌+◌, ◌%◌, ◌^◌, ◌≤◌, false, true, length};
+ghost use Rattle.std.specs.Io.KnownBytes.{Appends};
 ghost use Rattle.receiver_state.specs.Receiver.{store_size};
 ghost use Rattle.captures.specs.Lines.{closing, line_room};
-ghost use Rattle.listings.specs.Listings.{WritesListing};
+ghost use Rattle.listings.specs.Listings.{WritesListing, ListsKnown};
 ghost use Rattle.listings.specs.Parts.{ListTurn};
 
 use captures::{Gateway, Listing};
@@ -33,7 +34,9 @@ pub struct Turn {
 }
 
 // Writes a text, and keeps nothing of it back. Says whether it could.
-fn put<W: Write>(to: &mut W, text: &[u8]) -> bool {
+fn put<W: Write>(to: &mut W, text: &[u8]) -> bool
+    ensures { result ≡ true → Appends (W.contents to.old) (W.contents to.new) text.now }
+{
     to.write_all(text).is_ok() && to.flush().is_ok()
 }
 
@@ -50,7 +53,7 @@ fn answer<W: Write>(
     text: &mut [u8],
 ) -> Turn
     requires { (length store.old ≡ store_size) × (size ≤ length input.old) × (line_room listing ≤ length text.old) }
-    ensures { ListTurn listing g store.old input.old size last result store.new input.new }
+    ensures { ListTurn listing g store.old input.old size last result store.new input.new (W.contents to.old) (W.contents to.new) }
 {
     let listed = captures::list(listing, g, store, &input[..size], last, text);
     let end = listed.end;
@@ -77,7 +80,8 @@ pub struct Ended {
 
 // Writes the last line.
 fn close<W: Write>(to: &mut W, listing: Listing, c: Counts, read: u64, written: u64) -> Ended
-    ensures { (result.read ≡ read) × (result.written ≡ (written + length (closing listing c)) % 2 ^ 64) }
+    ensures { (result.read ≡ read) × (result.written ≡ (written + length (closing listing c)) % 2 ^ 64)
+        × (result.whole ≡ true → Appends (W.contents to.old) (W.contents to.new) (closing listing c)) }
 {
     let mut text = [0u8; END];
     let end = captures::close(listing, c, &mut text);
@@ -106,7 +110,8 @@ fn stopped(read: u64, written: u64, unread: bool) -> Ended
 // and nothing says that the input does: the turns are counted down from a number that no run uses up.
 fn list_all<R: Read, W: Write>(from: &mut R, to: &mut W, listing: Listing, own: &[u8]) -> Ended
     requires { 3 ≤ length own.now }
-    ensures { WritesListing listing own.now result }
+    ensures counted { WritesListing listing own.now result }
+    ensures known { ListsKnown listing own.now result (R.remaining from.old) (W.contents to.old) (W.contents to.new) }
 {
     let mut store = [0u8; STORE];
     let mut input = [0u8; INPUT];
@@ -147,7 +152,8 @@ fn list_all<R: Read, W: Write>(from: &mut R, to: &mut W, listing: Listing, own: 
 
 // Reads what is behind the own address and writes the listing. Where the address is cut short there is nothing but the last line.
 pub fn run<R: Read, W: Write>(from: &mut R, to: &mut W, listing: Listing, own: &[u8]) -> Ended
-    ensures { WritesListing listing own.now result }
+    ensures counted { WritesListing listing own.now result }
+    ensures known { ListsKnown listing own.now result (R.remaining from.old) (W.contents to.old) (W.contents to.new) }
 {
     if own.len() < ADDRESS {
         return close(to, listing, counting::none(), 0, 0);

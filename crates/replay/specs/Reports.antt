@@ -1,6 +1,8 @@
 -- A log on standard input, its lines on standard output.
 -- Assumes nothing.
-use Rattle.std.specs.Prelude.{◌≡◌, ℕ, true, cond, List, [], length, nat_lt}
+use Rattle.std.specs.Prelude.{◌≡◌, ℕ, true, cond, List, [], IfSome, length, nat_lt}
+use Rattle.std.specs.Io.KnownBytes.{Appends}
+use Rattle.std.specs.declared.option.Option.{Option}
 use Rattle.addresses.specs.Octets.{address_at}
 use Rattle.history.specs.History.{nothing}
 use Rattle.replays.specs.Log.{records_of}
@@ -16,3 +18,7 @@ report_of own os = cond (nat_lt (length own) 3) [] (report_text (lines_from (add
 -- a run that says that it came to the end of the input and wrote all: the text is that of what was read behind the own address, as counted
 abbrev pub WritesReport : List ℕ → Ended → Type 0
 WritesReport own r = r.whole ≡ true → ReadAndWritten report_of own r.read r.written
+
+-- and where it is known which octets the reader has left and which the writer holds: the writer holds as many more as the text of all of them is
+abbrev pub ReportsKnown : List ℕ → Ended → Option (List ℕ) → Option (List ℕ) → Option (List ℕ) → Type 0
+ReportsKnown own r from to to' = r.whole ≡ true → IfSome from (λ os. Appends to to' (report_of own os))

@@ -2,10 +2,11 @@
 // that many octets. For each a line with what is answered. A record that the end of the input cuts short is the last, refused with 1.
 #![tactic(auto)]
 
-ghost use Rattle.std.specs.Prelude.{◌≡◌, ◌≤◌, length};
+ghost use Rattle.std.specs.Prelude.{◌≡◌, ◌≤◌, true, length};
+ghost use Rattle.std.specs.Io.KnownBytes.{Appends};
 ghost use Rattle.receiver_state.specs.Receiver.{store_size};
 ghost use Rattle.replays.specs.Text.{report_room};
-ghost use Rattle.replay.specs.Reports.{WritesReport};
+ghost use Rattle.replay.specs.Reports.{WritesReport, ReportsKnown};
 ghost use Rattle.replay.specs.Parts.{ReplayTurn};
 
 use inputs::causes;
@@ -32,7 +33,9 @@ struct Turn {
 }
 
 // Writes a text, and keeps nothing of it back. Says whether it could.
-fn put<W: Write>(to: &mut W, text: &[u8]) -> bool {
+fn put<W: Write>(to: &mut W, text: &[u8]) -> bool
+    ensures { result ≡ true → Appends (W.contents to.old) (W.contents to.new) text.now }
+{
     to.write_all(text).is_ok() && to.flush().is_ok()
 }
 
@@ -48,7 +51,7 @@ fn answer<W: Write>(
     text: &mut [u8],
 ) -> Turn
     requires { (length store.old ≡ store_size) × (size ≤ length input.old) × (report_room ≤ length text.old) }
-    ensures { ReplayTurn rx store.old input.old size last result store.new input.new }
+    ensures { ReplayTurn rx store.old input.old size last result store.new input.new (W.contents to.old) (W.contents to.new) }
 {
     let replayed = replays::replay(rx, store, &input[..size], last, text);
     let end = replayed.end;
@@ -88,7 +91,8 @@ fn finish(read: u64, written: u64, whole: bool, unread: bool) -> Ended
 // and nothing says that the input does: the turns are counted down from a number that no run uses up.
 fn report_all<R: Read, W: Write>(from: &mut R, to: &mut W, own: &[u8]) -> Ended
     requires { 3 ≤ length own.now }
-    ensures { WritesReport own.now result }
+    ensures counted { WritesReport own.now result }
+    ensures known { ReportsKnown own.now result (R.remaining from.old) (W.contents to.old) (W.contents to.new) }
 {
     let mut store = [0u8; STORE];
     let mut input = [0u8; INPUT];
@@ -127,7 +131,8 @@ fn report_all<R: Read, W: Write>(from: &mut R, to: &mut W, own: &[u8]) -> Ended
 
 // Reads what is behind the own address and writes the report. Where the address is cut short there is none.
 fn run<R: Read, W: Write>(from: &mut R, to: &mut W, own: &[u8]) -> Ended
-    ensures { WritesReport own.now result }
+    ensures counted { WritesReport own.now result }
+    ensures known { ReportsKnown own.now result (R.remaining from.old) (W.contents to.old) (W.contents to.new) }
 {
     if own.len() < ADDRESS {
         return finish(0, 0, true, false);

@@ -4,50 +4,95 @@
 use Rattle.std.proofs.Common.{◌^◌, ◌<◌, ◌≤◌, length, take, refl, ◌∙◌, arith}
 use Rattle.logs.specs.Log.{state_of}
 use Rattle.replays.specs.Replay.{report_from}
-use Rattle.inputs.proofs.Turns.{underway_answered, underway_read, keeps_few, keeps_all, keeps_none}
+use borrow.Author.Tests.{eqb-true}
+use Rattle.foundation.proofs.OctetLists.{octets-zeros}
+use Rattle.inputs.proofs.Turns.{keeps_few, keeps_all, keeps_none}
+use Rattle.inputs.proofs.Known.{between_answered, between_read}
 use Rattle.replay.specs.Parts.{fresh_over}
-use Rattle.replay.proofs.Turning.{run_start, run_ends, as_told}
+use Rattle.replay.proofs.Turning.{run_start, run_ends, ends_known, as_told}
 use Rattle.replay.proofs.report_all.Goals as goal
 
 pub loop-turns-init : goal.loop-turns-init
-loop-turns-init g c = let a = c.args in (refl, refl, refl, omega arith, run_start a.own.now c.start-now.result c.start-now.ensures)
+loop-turns-init g c =
+    let a = c.args in (
+      refl,
+      refl,
+      refl,
+      omega arith,
+      run_start a.own.now c.start-now.result (g.R.Read.remaining a.from.now) (g.W.Write.contents a.to.now) c.start-now.ensures,
+      octets-zeros 65538,
+    )
 
 pub loop-turns-preserved-then-t-size : goal.loop-turns-preserved-then-t-size
 loop-turns-preserved-then-t-size g c =
     let a = c.args in
     let l = c.loop-turns in
     let w = c.answer-t in
-    let u = underway_answered report_from (fresh_over a.own.now) l.read l.written l.last (state_of l.now l.store) (take l.size l.input) l.invariant.4 w.result.letters w.result.kept _ _ w.ensures _ c.wrapping_add_u64-written.ensures.value in
-    let inside : l.size ≤ length l.input = omega (arith, l.invariant.1, l.invariant.3) in
-    (w.auto.store ∙ l.invariant.0, w.auto.input ∙ l.invariant.1, w.auto.text ∙ l.invariant.2, omega (arith, keeps_few report_from (state_of l.now l.store) l.input l.size l.last w.result.letters w.result.kept _ _ w.ensures inside, l.invariant.3), u)
+    let u =
+    between_answered report_from (fresh_over a.own.now) (g.R.Read.remaining a.from.now) (g.W.Write.contents a.to.now) l.read l.written l.last
+    (state_of l.now l.store) (take l.size l.input) (g.R.Read.remaining l.from) (g.W.Write.contents l.to) (g.W.Write.contents w.new.to) l.invariant.4
+    w.result.letters w.result.kept _ _ w.result.written w.ensures.0 c.if-not-t.false _ c.wrapping_add_u64-written.ensures.value in
+    let inside : l.size ≤ length l.input = omega (arith, l.invariant.1, l.invariant.3) in (
+      w.auto.store ∙ l.invariant.0,
+      w.auto.input ∙ l.invariant.1,
+      w.auto.text ∙ l.invariant.2,
+      omega (arith, keeps_few report_from (state_of l.now l.store) l.input l.size l.last w.result.letters w.result.kept _ _ w.ensures.0.0 inside, l.invariant.3),
+      u,
+      w.ensures.2,
+    )
 
-pub returns-then-last : goal.returns-then-last
-returns-then-last g c =
+pub returns-then-last-clause-counted : goal.returns-then-last-clause-counted
+returns-then-last-clause-counted g c =
     let a = c.args in
     let l = c.loop-turns in
     let w = c.answer-t in
-    let u = underway_answered report_from (fresh_over a.own.now) l.read l.written l.last (state_of l.now l.store) (take l.size l.input) l.invariant.4 w.result.letters w.result.kept _ _ w.ensures _ c.wrapping_add_u64-written.ensures.value in
+    let u =
+    between_answered report_from (fresh_over a.own.now) (g.R.Read.remaining a.from.now) (g.W.Write.contents a.to.now) l.read l.written l.last
+    (state_of l.now l.store) (take l.size l.input) (g.R.Read.remaining l.from) (g.W.Write.contents l.to) (g.W.Write.contents w.new.to) l.invariant.4
+    w.result.letters w.result.kept _ _ w.result.written w.ensures.0 c.if-not-t.false _ c.wrapping_add_u64-written.ensures.value in
     let inside : l.size ≤ length l.input = omega (arith, l.invariant.1, l.invariant.3) in
     let k = c.wrapping_add_u64-written in
     let small : k.result < 2 ^ 64 = omega (arith, k.ensures.value) in
     as_told a.own.now c.finish-then-last.result _ _ _ _ c.finish-then-last.ensures
-    (λ _. run_ends a.own.now (λ j. (c.type_inv.own j).fits) c.requires l.read k.result l.last w.result.receiver _ _ w.result.kept u c.if-last.true
-    (keeps_none report_from (state_of l.now l.store) l.input l.size l.last w.result.letters w.result.kept _ _ w.ensures inside c.if-last.true (omega arith)) small)
+    (λ _. run_ends a.own.now (λ j. (c.type_inv.own j).fits) c.requires l.read k.result l.last w.result.receiver _ _ w.result.kept _ _ _ _ u c.if-last.true
+    (keeps_none report_from (state_of l.now l.store) l.input l.size l.last w.result.letters w.result.kept _ _ w.ensures.0.0 inside c.if-last.true (omega arith)) small)
+
+pub returns-then-last-clause-known : goal.returns-then-last-clause-known
+returns-then-last-clause-known g c =
+    let a = c.args in
+    let l = c.loop-turns in
+    let w = c.answer-t in
+    let u =
+    between_answered report_from (fresh_over a.own.now) (g.R.Read.remaining a.from.now) (g.W.Write.contents a.to.now) l.read l.written l.last
+    (state_of l.now l.store) (take l.size l.input) (g.R.Read.remaining l.from) (g.W.Write.contents l.to) (g.W.Write.contents w.new.to) l.invariant.4
+    w.result.letters w.result.kept _ _ w.result.written w.ensures.0 c.if-not-t.false _ c.wrapping_add_u64-written.ensures.value in
+    let inside : l.size ≤ length l.input = omega (arith, l.invariant.1, l.invariant.3) in
+    ends_known a.own.now (λ j. (c.type_inv.own j).fits) c.requires c.finish-then-last.result _ _ l.last w.result.receiver _ _ w.result.kept _ _ _ _
+    u c.if-last.true
+    (keeps_none report_from (state_of l.now l.store) l.input l.size l.last w.result.letters w.result.kept _ _ w.ensures.0.0 inside c.if-last.true (omega arith))
 
 pub loop-turns-preserved : goal.loop-turns-preserved
 loop-turns-preserved g c =
     let a = c.args in
     let l = c.loop-turns in
     let w = c.answer-t in
-    let u = underway_answered report_from (fresh_over a.own.now) l.read l.written l.last (state_of l.now l.store) (take l.size l.input) l.invariant.4 w.result.letters w.result.kept _ _ w.ensures _ c.wrapping_add_u64-written.ensures.value in
+    let u =
+    between_answered report_from (fresh_over a.own.now) (g.R.Read.remaining a.from.now) (g.W.Write.contents a.to.now) l.read l.written l.last
+    (state_of l.now l.store) (take l.size l.input) (g.R.Read.remaining l.from) (g.W.Write.contents l.to) (g.W.Write.contents w.new.to) l.invariant.4
+    w.result.letters w.result.kept _ _ w.result.written w.ensures.0 c.if-not-t.false _ c.wrapping_add_u64-written.ensures.value in
     let inside : l.size ≤ length l.input = omega (arith, l.invariant.1, l.invariant.3) in
     let r = c.read_behind-reading in
     let room = w.auto.input ∙ l.invariant.1 in
-    let kept = keeps_all report_from (state_of l.now l.store) l.input l.size l.last w.result.letters w.result.kept _ _ w.ensures inside (omega arith) in
-    let whole : l.size ≤ length w.new.input = omega (arith, room, l.invariant.3) in (
+    let kept = keeps_all report_from (state_of l.now l.store) l.input l.size l.last w.result.letters w.result.kept _ _ w.ensures.0.0 inside (omega arith) in
+    let whole : l.size ≤ length w.new.input = omega (arith, room, l.invariant.3) in
+    let few : l.size < 65538 = w.ensures.1 l.invariant.5 c.if-last.false kept in (
       w.auto.store ∙ l.invariant.0,
       r.auto.input ∙ room,
       w.auto.text ∙ l.invariant.2,
       omega (arith, room, r.ensures.behind.inside whole),
-      underway_read _ l.size r.result _ r.ensures.behind whole r.auto.input report_from (fresh_over a.own.now) l.read _ l.last _ w.result.kept u c.if-last.false kept _ refl _ c.wrapping_add_u64-read.ensures.value,
+      between_read report_from (fresh_over a.own.now) (g.R.Read.remaining a.from.now) (g.W.Write.contents a.to.now) w.new.input l.size r.result r.new.input
+          r.ensures.behind whole r.auto.input l.read _ l.last _ w.result.kept (g.R.Read.remaining l.from) (g.R.Read.remaining r.new.reader) (g.W.Write.contents w.new.to)
+          u c.if-last.false kept r.ensures.taken _ refl
+          (λ t. r.ensures.ended c.if-reading.false (eqb-true r.result.size l.size t) (omega (arith, few, room))) _ c.wrapping_add_u64-read.ensures.value,
+      r.ensures.behind.octets,
     )

@@ -2,12 +2,15 @@
 -- text.
 -- Assumes nothing.
 use Rattle.std.proofs.Common.{◌≡◌, ◌≤◌, length, take}
+use Rattle.foundation.proofs.OctetLists.{Octets}
 use Rattle.replay.proofs.Turning.{Run}
 use Rattle.replay.proofs.report_all.Given as goal
 
 abbrev pub invariant-loop-turns : goal.invariant-loop-turns
 invariant-loop-turns g l =
     (length l.store ≡ 630) × (length l.input ≡ 65538) × (length l.text ≡ 65536) × (l.size ≤ 65538) × Run l.own l.read l.written l.last l.now l.store (take l.size l.input)
+    (g.R.Read.remaining l.initial.from) (g.R.Read.remaining l.from) (g.W.Write.contents l.initial.to) (g.W.Write.contents l.to)
+    × Octets l.input
 
 abbrev pub decreases-loop-turns : goal.decreases-loop-turns
 decreases-loop-turns g l =
