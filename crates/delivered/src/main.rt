@@ -4,33 +4,11 @@
 #![tactic(auto)]
 
 use captures::Listing;
-use inputs::causes;
-use std::env::{Env, FillError};
+use inputs::programs;
+use std::env::Env;
 
 fn main(rt: HostRuntime) {
-    if !matches!(rt.arg(1, &mut [0u8; 1]), Err(FillError::NotPresent)) {
-        let _ = eprintln!(rt; "usage: delivered < CAPTURE");
-        return;
-    }
-    let mut from = causes::begun(rt.stdin());
-    let mut to = causes::begun(rt.stdout());
-    let mut own = [0u8; 3];
-    let first = inputs::fill(&mut from, &mut own);
-    if first.failed {
-        let cause = causes::cause(rt.alloc(), from.error);
-        let _ = eprintln!(rt; "delivered: standard input can't be read{cause}");
-        return;
-    }
-    let size = first.size;
-    let e = listings::run(&mut from, &mut to, Listing::Deliveries, &own[..size]);
-    if e.whole {
-        return;
-    }
-    if e.unread {
-        let cause = causes::cause(rt.alloc(), from.error);
-        let _ = eprintln!(rt; "delivered: standard input can't be read{cause}");
-        return;
-    }
-    let cause = causes::cause(rt.alloc(), to.error);
-    let _ = eprintln!(rt; "delivered: standard output can't be written{cause}");
+    programs::program(&rt, rt.arg(1, &mut [0; 1]), "delivered", "CAPTURE", || {
+        listings::list(&mut rt.stdin(), &mut rt.stdout(), Listing::Deliveries)
+    });
 }

@@ -1,3 +1,3 @@
 pub mod Moving
-pub mod Known
 pub mod Turns
+pub mod Known

@@ -1,14 +1,13 @@
--- Octets moved to the front of the memory that they stand in, one after the other; and a part read behind the first ones.
+-- Octets moved to the front of the memory that they stand in; and a part read behind the first ones.
 -- Assumes nothing.
-use mathlib.Core.Path.{◌≡◌, sym, ap, subst, ◌∙◌}
+use mathlib.Core.Path.{◌≡◌, sym, ap, ◌∙◌}
 use mathlib.Core.List.{List, ◌++◌}
-use Prim.Native.Nat.{ℕ, ◌+◌, ◌-◌, ◌≤◌, ◌<◌}
-use native.Mathlib.Nat.{zero-add}
+use Prim.Native.Nat.{ℕ, ◌+◌, ◌-◌, ◌≤◌}
 use native.Mathlib.Omega.{arith}
-use lib.ListN.{length, get_or, take, drop, set, length-drop, drop_of_length-le}
-use lib.Seq.{take_at, take-append-le, length-take-le, get_or-drop, drop-paste}
+use lib.ListN.{length, take, drop, length-drop, drop_of_length-le}
+use lib.Seq.{paste, take_at, take-append-le, length-take-le}
 use Rattle.foundation.specs.Octets.{put}
-use Rattle.foundation.proofs.Copying.{Copied, copied_start, copied_more, copied_done, copied_length, put_fits, length-put}
+use Rattle.foundation.proofs.Copying.{copied_done, put_fits, length-put}
 use Rattle.texts.proofs.Writing.{wrote_none, wrote_front}
 
 module _ (d : List ℕ) (at : ℕ) where
@@ -19,31 +18,11 @@ module _ (d : List ℕ) (at : ℕ) where
   room : 0 + length (drop at d) ≤ length d
   room = omega (arith, length-drop at d)
 
-  pub moved_none : Copied d 0 (drop at d) 0 d
-  moved_none = copied_start d 0 (drop at d)
-
-  module _ (i : ℕ) (m : List ℕ) (k : Copied d 0 (drop at d) i m) where
-    pub moved_length : length m ≡ length d
-    moved_length = copied_length d 0 (drop at d) i m room k
-
-    -- what is to be moved next is still what it was
-    still : get_or m (at + i) 0 ≡ get_or (drop at d) i 0
-    still =
-        let e : at + i ≡ i + at = omega arith in
-        let p = k.part in
-        let same : drop i m ≡ drop i d =
-        ap (λ (n : ℕ). drop n m) (sym (zero-add i)) ∙ ap (drop (0 + i)) k.is ∙ drop-paste d 0 (drop at d) i (omega arith) p
-        ∙ ap (λ (n : ℕ). drop n d) (zero-add i) in
-        ap (λ (n : ℕ). get_or m n 0) e ∙ sym (get_or-drop i m at 0) ∙ ap (λ (l : List ℕ). get_or l at 0) same ∙ get_or-drop i d at 0
-        ∙ ap (λ (n : ℕ). get_or d n 0) (sym e) ∙ sym (get_or-drop at d i 0)
-
-    pub moved_more : i < length d - at → Copied d 0 (drop at d) (i + 1) (set m i (get_or m (at + i) 0))
-    moved_more h =
-        subst (λ (n : ℕ). Copied d 0 (drop at d) (i + 1) (set m n (get_or m (at + i) 0))) (zero-add i)
-        (copied_more d 0 (drop at d) i m room k (get_or m (at + i) 0) (omega (arith, length-drop at d)) still)
-
-    pub moved_all : length d - at ≤ i → m ≡ put d 0 (drop at d)
-    moved_all h = copied_done d 0 (drop at d) i m room k (omega (arith, length-drop at d)) ∙ sym (put_fits d 0 (drop at d) room)
+  pub moved : (m : List ℕ) → m ≡ paste d 0 (drop at d) (length d - at) → m ≡ put d 0 (drop at d)
+  moved m e =
+      let long = length-drop at d in
+      copied_done d 0 (drop at d) (length d - at) m room (record { part = omega (arith, long); is = e }) (omega (arith, long))
+      ∙ sym (put_fits d 0 (drop at d) room)
 
 -- the first octets stay
 pub first-kept : (d x : List ℕ) (first : ℕ) → first ≤ length d → take first (take first d ++ x) ≡ take first d

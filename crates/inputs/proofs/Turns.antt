@@ -8,25 +8,23 @@ use native.Mathlib.Nat.{not-suc-le-zero}
 use native.Mathlib.Omega.{arith}
 use lib.ListN.{length, take, drop, length-append, length-drop, take-append-drop}
 use lib.Seq.{length-take-le, take-take}
-use lib.Dec.{eqb}
-use borrow.Author.Tests.{eqb-true}
 use Rattle.foundation.proofs.Tests.{never}
-use Rattle.foundation.proofs.OctetLists.{Octets, octets-append, octets-take, octets-drop, octets-zeros}
+use Rattle.foundation.proofs.OctetLists.{Octets, octets-append, octets-zeros}
 use Rattle.inputs.specs.Inputs.{ReadBehind, ReadAndWritten}
-use Rattle.inputs.specs.Parts.{Continues, Answers, Underway}
-use Rattle.inputs.specs.declared.Reading.{Reading}
+use Rattle.inputs.specs.Parts.{Continues, Answers, Prints, Underway}
+use Rattle.inputs.specs.declared.printing.Printed.{Printed}
 
-length_none : (l : List ℕ) → length l ≤ 0 → l ≡ []
+pub length_none : (l : List ℕ) → length l ≤ 0 → l ≡ []
 length_none [] h = refl
 length_none (x ∷ l) h = absurd (not-suc-le-zero h)
 
 module _ {S : Type 0} (text : S → List ℕ → List ℕ) (first : S) where
-  pub underway_start : Underway text first 0 0 false first []
+  unfoldable pub underway_start : Underway text first 0 0 false first []
   underway_start = record { read = []; written = []; octets-read = octets-zeros 0; as_many = refl; so_long = refl; goes_on = λ more e. refl }
 
   module _ (octets letters : ℕ) (ended : Bool) (now : S) (rest : List ℕ) (u : Underway text first octets letters ended now rest) where
     -- octets are answered
-    pub underway_answered : (more kept : ℕ) (now' : S) (rest' : List ℕ) → Answers text now rest ended more kept now' rest' → (letters' : ℕ)
+    unfoldable pub underway_answered : (more kept : ℕ) (now' : S) (rest' : List ℕ) → Answers text now rest ended more kept now' rest' → (letters' : ℕ)
         → letters' ≡ (letters + more) % 2 ^ 64 → Underway text first octets letters' ended now' rest'
     underway_answered more kept now' rest' a letters' e = record {
       read = u.read;
@@ -38,22 +36,9 @@ module _ {S : Type 0} (text : S → List ℕ → List ℕ) (first : S) where
           ∙ sym (append_assoc u.written a.line (text now' (rest' ++ m)));
     }
 
-    -- all are, and nothing follows but a last line
-    underway_ends : ended ≡ true → (last : List ℕ) → text now rest ≡ last → (letters' : ℕ) → letters' ≡ (letters + length last) % 2 ^ 64
-        → ReadAndWritten text first octets letters'
-    underway_ends e last l letters' el = record {
-      read = u.read;
-      written = u.written ++ last;
-      octets-read = u.octets-read;
-      as_many = u.as_many;
-      so_long = omega (arith, u.so_long, length-append u.written last, el);
-      whole = ap (text first) (sym (append-nil u.read)) ∙ u.goes_on [] (λ _. refl) ∙ ap (λ (x : List ℕ). u.written ++ text now x) (append-nil rest)
-          ∙ ap (λ (x : List ℕ). u.written ++ x) l;
-    }
-
   -- octets are read
   module _ (octets letters : ℕ) (now : S) (rest : List ℕ) (u : Underway text first octets letters false now rest) where
-    underway_more : (new : List ℕ) → Octets new → (ended : Bool) → (ended ≡ true → new ≡ []) → (octets' : ℕ) → octets' ≡ (octets + length new) % 2 ^ 64
+    unfoldable pub underway_more : (new : List ℕ) → Octets new → (ended : Bool) → (ended ≡ true → new ≡ []) → (octets' : ℕ) → octets' ≡ (octets + length new) % 2 ^ 64
         → Underway text first octets' letters ended now (rest ++ new)
     underway_more new small ended none octets' e = record {
       read = u.read ++ new;
@@ -65,43 +50,29 @@ module _ {S : Type 0} (text : S → List ℕ → List ℕ) (first : S) where
           ∙ ap (λ (x : List ℕ). u.written ++ text now x) (sym (append_assoc rest new more));
     }
 
--- a turn: some octets are taken, their text stands in front of what is lent for it, and the others are kept
-pub turn : {S : Type 0} (text : S → List ℕ → List ℕ) (s s' : S) (os : List ℕ) (last : Bool) (lent : List ℕ) (end taken kept : ℕ) (rest : List ℕ)
-    → end ≤ length lent → Continues text s os last (take end lent) s' (drop taken os) → taken ≤ length os → (last ≡ true → taken ≡ 0 → length os ≡ 0)
-    → kept ≡ length os - taken → rest ≡ drop taken os → Answers text s os last end kept s' rest
-turn text s s' os last lent end taken kept rest fits on within some ek er = record {
-  line = take end lent;
-  long = length-take-le end lent fits;
-  goes_on = subst (Continues text s os last (take end lent) s') (sym er) on;
+-- a turn: what is taken is answered, and the others are kept
+unfoldable pub turn : {S : Type 0} (text : S → List ℕ → List ℕ) (s s' : S) (os : List ℕ) (last : Bool) (r : Printed) (lent : List ℕ) (kept : ℕ) (rest : List ℕ)
+    → Prints text s os last r s' lent → kept ≡ length os - r.taken → rest ≡ drop r.taken os → Answers text s os last r.end kept s' rest
+turn text s s' os last r lent kept rest p ek er = record {
+  line = take r.end lent;
+  long = length-take-le r.end lent p.ends;
+  goes_on = subst (Continues text s os last (take r.end lent) s') (sym er) p.goes_on;
   fewer = omega (arith, ek);
-  none_left = λ t e. some t (omega (arith, ek, e, within));
+  none_left = λ t e. p.takes_last t (omega (arith, ek, e, p.takes));
 }
 
 -- what there is after a reading: what there was, and the new octets behind it
-module _ (input : List ℕ) (size : ℕ) (r : Reading) (input' : List ℕ) (b : ReadBehind input size r input') (inside : size ≤ length input)
+module _ (input : List ℕ) (size : ℕ) (read : ℕ) (input' : List ℕ) (b : ReadBehind input size read input') (inside : size ≤ length input)
     (room : length input' ≡ length input) where
-  abbrev new : List ℕ
-  new = drop size (take r.size input')
+  abbrev pub new : List ℕ
+  new = drop size (take read input')
 
-  length_new : length new ≡ r.size - size
-  length_new = length-drop size (take r.size input') ∙ ap (λ (n : ℕ). n - size) (length-take-le r.size input' (omega (arith, b.inside inside, room)))
+  pub length_new : length new ≡ read - size
+  length_new = length-drop size (take read input') ∙ ap (λ (n : ℕ). n - size) (length-take-le read input' (omega (arith, b.inside inside, room)))
 
-  behind_rest : take size input ++ new ≡ take r.size input'
+  pub behind_rest : take size input ++ new ≡ take read input'
   behind_rest =
-      ap (λ (x : List ℕ). x ++ new) (sym b.kept ∙ sym (take-take size r.size input' b.behind)) ∙ take-append-drop size (take r.size input')
-
-  module _ {S : Type 0} (text : S → List ℕ → List ℕ) (first : S) (octets letters : ℕ) (ended : Bool) (now : S) (kept : ℕ)
-      (u : Underway text first octets letters ended now (take kept input)) where
-    -- those that were there before are kept, and the input had not ended
-    pub underway_read : ended ≡ false → kept ≡ size → (ended' : Bool) → ended' ≡ eqb r.size size → (octets' : ℕ)
-        → octets' ≡ (octets + (r.size - size)) % 2 ^ 64 → Underway text first octets' letters ended' now (take r.size input')
-    underway_read e k ended' ee octets' eo =
-        let before : Underway text first octets letters false now (take size input) =
-        subst (λ (n : ℕ). Underway text first octets letters false now (take n input)) k
-        (subst (λ (t : Bool). Underway text first octets letters t now (take kept input)) e u) in
-        subst (Underway text first octets' letters ended' now) behind_rest
-        (underway_more text first octets letters now (take size input) before new (octets-drop size (take r.size input') (octets-take r.size input' b.octets)) ended'
-        (λ t. length_none new (omega (arith, length_new, eqb-true r.size size (sym ee ∙ t)))) octets' (eo ∙ ap (λ (n : ℕ). (octets + n) % 2 ^ 64) (sym length_new)))
+      ap (λ (x : List ℕ). x ++ new) (sym b.kept ∙ sym (take-take size read input' b.behind)) ∙ take-append-drop size (take read input')
 
 -- ---- what a turn keeps
 
@@ -119,12 +90,19 @@ module _ {S : Type 0} (text : S → List ℕ → List ℕ) (now : S) (input : Li
   pub keeps_none : ended ≡ true → size ≤ kept → kept ≡ 0
   keeps_none e h = omega (arith, keeps_all h, length-first, a.none_left e (omega (arith, keeps_all h, length-first)))
 
--- nothing is kept, and nothing follows
+-- nothing is kept, and nothing follows: the text at the end
 pub underway_over : {S : Type 0} (text : S → List ℕ → List ℕ) (first : S) (octets letters : ℕ) (ended : Bool) (now : S) (input : List ℕ) (kept : ℕ)
-    → Underway text first octets letters ended now (take kept input) → ended ≡ true → kept ≡ 0 → (last : List ℕ) → text now [] ≡ last
-    → (letters' : ℕ) → letters' ≡ (letters + length last) % 2 ^ 64 → ReadAndWritten text first octets letters'
-underway_over text first octets letters ended now input kept u e z last l letters' el =
-    underway_ends text first octets letters ended now (take kept input) u e last (ap (λ (n : ℕ). text now (take n input)) z ∙ l) letters' el
+    → Underway text first octets letters ended now (take kept input) → ended ≡ true → kept ≡ 0 → (letters' : ℕ)
+    → letters' ≡ (letters + length (text now [])) % 2 ^ 64 → ReadAndWritten text first octets letters'
+underway_over text first octets letters ended now input kept u e z letters' el = record {
+  read = u.read;
+  written = u.written ++ text now [];
+  octets-read = u.octets-read;
+  as_many = u.as_many;
+  so_long = omega (arith, u.so_long, length-append u.written (text now []), el);
+  whole = ap (text first) (sym (append-nil u.read)) ∙ u.goes_on [] (λ _. refl)
+      ∙ ap (λ (x : List ℕ). u.written ++ text now x) (append-nil (take kept input) ∙ ap (λ (n : ℕ). take n input) z);
+}
 
 -- the same text by another definition
 pub as_text : {S T : Type 0} (text : S → List ℕ → List ℕ) (first : S) (text' : T → List ℕ → List ℕ) (first' : T) (octets letters : ℕ)

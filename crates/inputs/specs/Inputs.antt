@@ -1,13 +1,25 @@
 -- What holds of octets that are read behind others, and of a program that has read its input and written its text.
 -- Assumes nothing.
-use Rattle.std.specs.Prelude.{◌≡◌, List, ℕ, ◌%◌, ◌^◌, ◌≤◌, ◌<◌, length, get_or, take}
-use Rattle.inputs.specs.declared.Reading.{Reading}
+use Rattle.std.specs.Prelude.{IfSome, ◌≡◌, List, ℕ, ◌%◌, ◌^◌, ◌≤◌, ◌<◌, length, get_or, take}
+use Rattle.std.specs.Io.KnownBytes.{Appends}
+use Rattle.std.specs.declared.option.Option.{Option}
+use Rattle.std.specs.declared.result.Result.{Result}
+use Rattle.std.specs.declared.result.Result.TheVariants.{Ok, Err}
+use Rattle.std.specs.declared.io.Error.{Error}
+use Rattle.inputs.specs.declared.Unread.{Unread}
+use Rattle.inputs.specs.declared.printing.Failed.{Failed}
+use Rattle.inputs.specs.declared.printing.Failed.TheVariants.{Input, Output}
+
+-- how many octets there are after a reading, that of a part too
+abbrev pub size_read : Result ℕ Unread → ℕ
+size_read (Ok n) = n
+size_read (Err u) = u.size
 
 -- the first octets stay, and the others are behind them and inside the memory
-pub record ReadBehind (input : List ℕ) (first : ℕ) (r : Reading) (input' : List ℕ) : Type 0 where
+pub record ReadBehind (input : List ℕ) (first size : ℕ) (input' : List ℕ) : Type 0 where
   pub kept : take first input' ≡ take first input
-  pub behind : first ≤ r.size
-  pub inside : first ≤ length input → r.size ≤ length input
+  pub behind : first ≤ size
+  pub inside : first ≤ length input → size ≤ length input
   pub octets : (i : ℕ) → get_or input' i 0 < 256
 
 -- a program that makes a text of what it reads, from a state on, and counts both (modulo 2^64): there are octets, as many as it counted as read,
@@ -19,3 +31,12 @@ pub record ReadAndWritten {S : Type 0} (text : S → List ℕ → List ℕ) (fir
   pub as_many : length read % 2 ^ 64 ≡ octets
   pub so_long : length written % 2 ^ 64 ≡ letters
   pub whole : text first read ≡ written
+
+-- where it is known which octets the reader has left and which the writer holds: the writer holds as many more as the text of all of them is
+abbrev pub AllWritten : {S : Type 0} → (S → List ℕ → List ℕ) → S → Option (List ℕ) → Option (List ℕ) → Option (List ℕ) → Type 0
+AllWritten text first from to to' = IfSome from (λ os. ((i : ℕ) → get_or os i 0 < 256) × Appends to to' (text first os))
+
+-- why a stream failed
+abbrev pub failed_by : Failed → Error
+failed_by (Input e) = e
+failed_by (Output e) = e

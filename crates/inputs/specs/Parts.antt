@@ -1,6 +1,10 @@
 -- What the loops of programs keep to, and what a turn of them gives: nothing that a reader has to believe.
 -- Assumes nothing.
-use Rattle.std.specs.Prelude.{◌≡◌, Bool, true, List, [], ◌++◌, ℕ, ◌%◌, ◌^◌, ◌≤◌, ◌<◌, length, get_or}
+use Rattle.std.specs.Prelude.{◌≡◌, Bool, true, false, List, [], ◌++◌, ℕ, ◌%◌, ◌^◌, ◌≤◌, ◌<◌, length, get_or, take, drop}
+use Rattle.std.specs.Io.KnownBytes.{Appends, Consumes, IsAtEnd}
+use Rattle.std.specs.declared.option.Option.{Option}
+use Rattle.inputs.specs.declared.printing.Printed.{Printed}
+use Rattle.inputs.specs.declared.printing.Turn.{Turn}
 
 -- whatever follows, or nothing where nothing can: the text of what was read and follows is what was written, and then the text, from now on, of
 -- the rest and of what follows
@@ -24,3 +28,23 @@ pub record Underway {S : Type 0} (text : S → List ℕ → List ℕ) (first : S
   pub as_many : length read % 2 ^ 64 ≡ octets
   pub so_long : length written % 2 ^ 64 ≡ letters
   pub goes_on : Continues text first read ended written now rest
+
+-- what a printer gives for octets: their text in front, those behind them as they are to be answered from there on; some of the last ones are
+-- taken, and some of so many as there is memory for
+pub record Prints {S : Type 0} (text : S → List ℕ → List ℕ) (first : S) (octets : List ℕ) (last : Bool) (r : Printed) (now : S) (lent : List ℕ) : Type 0 where
+  pub goes_on : Continues text first octets last (take r.end lent) now (drop r.taken octets)
+  pub ends : r.end ≤ length lent
+  pub takes : r.taken ≤ length octets
+  pub takes_last : last ≡ true → r.taken ≡ 0 → length octets ≡ 0
+  pub takes_full : last ≡ false → r.taken ≡ 0 → length octets < 65538
+
+-- a turn that is written, where it is known which octets the writer holds
+abbrev pub PrintsTurn : {S : Type 0} → (S → List ℕ → List ℕ) → S → List ℕ → Bool → Turn → S → List ℕ → Option (List ℕ) → Option (List ℕ) → Type 0
+PrintsTurn text first octets last t now rest to to' =
+    (a : Answers text first octets last t.letters t.kept now rest) × Appends to to' a.line
+    × (last ≡ false → t.kept ≡ length octets → length octets < 65538)
+
+-- and some turns, where it is known too which octets the reader has left
+abbrev pub Between : {S : Type 0} → (S → List ℕ → List ℕ) → S → ℕ → ℕ → Bool → S → List ℕ → Option (List ℕ) → Option (List ℕ) → Option (List ℕ) → Option (List ℕ) → Type 0
+Between text first octets letters ended now rest from from' to to' =
+    (u : Underway text first octets letters ended now rest) × Consumes from from' u.read × Appends to to' u.written × (ended ≡ true → IsAtEnd from')

@@ -1,67 +1,58 @@
 // What a program reads: octets behind those that it has kept, and the rest of them moved to the front.
 #![tactic(auto)]
 
-ghost use Rattle.std.specs.Prelude.{◌≡◌, ◌+◌, ◌-◌, ◌≤◌, ◌<◌, false, length, take, drop};
+ghost use Rattle.std.specs.Prelude.{◌≡◌, ◌+◌, ◌-◌, ◌≤◌, ◌<◌, IfOk, length, take, drop};
 ghost use Rattle.std.specs.Io.KnownBytes.{Consumes, IsAtEnd};
 ghost use Rattle.foundation.specs.Octets.{put};
-ghost use Rattle.inputs.specs.Inputs.{ReadBehind};
+ghost use Rattle.inputs.specs.Inputs.{ReadBehind, size_read};
 
-use std::io::Read;
+use std::io;
+use std::io::{ErrorKind, Read};
 
 pub mod causes;
+pub mod printing;
+pub mod programs;
 
-// How many octets there are now, and whether the input could not be read. Where it could, and there are no more, it has ended.
-#[derive(Drop)]
-pub struct Reading {
+// How many octets there were when no more could be read, and why.
+#[derive(Clone, Copy)]
+pub struct Unread {
     pub size: usize,
-    pub failed: bool,
+    pub error: io::Error,
 }
 
-// What there is to read, put behind the first octets, which stay.
-pub fn read_behind<R: Read>(reader: &mut R, input: &mut [u8], first: usize) -> Reading
-    ensures behind { ReadBehind input.old first result input.new }
-    ensures taken { Consumes (R.remaining reader.old) (R.remaining reader.new) (drop first (take result.size input.new)) }
-    ensures ended { result.failed ≡ false → result.size ≡ first → first < length input.old → IsAtEnd (R.remaining reader.new) }
+// What there is to read, put behind the first octets, which stay: how many there are now. Where there are no more, the input has ended.
+pub fn read_behind<R: Read>(reader: &mut R, input: &mut [u8], first: usize) -> Result<usize, Unread>
+    ensures behind { ReadBehind input.old first (size_read result) input.new }
+    ensures taken { Consumes (R.remaining reader.old) (R.remaining reader.new) (drop first (take (size_read result) input.new)) }
+    ensures ended { IfOk result (λ n. n ≡ first → first < length input.old → IsAtEnd (R.remaining reader.new)) }
 {
     if input.len() < first {
-        return Reading {
+        return Err(Unread {
             size: first,
-            failed: true,
-        };
+            error: io::Error::from(ErrorKind::InvalidInput),
+        });
     }
     match reader.read(&mut input[first..]) {
-        Ok(more) => Reading {
-            size: first + more,
-            failed: false,
-        },
-        Err(_) => Reading {
-            size: first,
-            failed: true,
-        },
+        Ok(more) => Ok(first + more),
+        Err(error) => Err(Unread { size: first, error }),
     }
 }
 
 // Reads until the octets are filled, the input ends or can't be read.
-pub fn fill<R: Read>(reader: &mut R, octets: &mut [u8]) -> Reading
-    ensures inside { result.size ≤ length octets.new }
-    ensures taken { Consumes (R.remaining reader.old) (R.remaining reader.new) (take result.size octets.new) }
-    ensures ended { result.failed ≡ false → result.size < length octets.new → IsAtEnd (R.remaining reader.new) }
+pub fn fill<R: Read>(reader: &mut R, octets: &mut [u8]) -> Result<usize, Unread>
+    ensures inside { size_read result ≤ length octets.new }
+    ensures taken { Consumes (R.remaining reader.old) (R.remaining reader.new) (take (size_read result) octets.new) }
+    ensures ended { IfOk result (λ n. n < length octets.new → IsAtEnd (R.remaining reader.new)) }
 {
     let mut size: usize = 0;
     while size < octets.len() {
-        let r = read_behind(reader, octets, size);
-        if r.failed {
-            return r;
+        let more = read_behind(reader, octets, size)?;
+        if more == size {
+            break;
         }
-        if r.size == size {
-            return r;
-        }
-        size = r.size;
+        size = more;
     }
-    Reading {
-        size,
-        failed: false,
-    }
+    Ok(size)
 }
 
 // The octets from a place on become the first ones: how many these are.
@@ -72,11 +63,6 @@ pub fn to_front(octets: &mut [u8], at: usize) -> usize
     if size <= at {
         return 0;
     }
-    let n = size - at;
-    let mut i: usize = 0;
-    while i < n {
-        octets[i] = octets[at + i];
-        i += 1;
-    }
-    n
+    octets.copy_within(at..size, 0);
+    size - at
 }

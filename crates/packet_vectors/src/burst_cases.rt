@@ -1,12 +1,12 @@
 // Bursts and datagrams, written and read. The information is the header of packet_cases.
-ghost use Rattle.std.specs.Prelude.{◌≡◌, ◌+◌, ◌%◌, ◌^◌};
+ghost use Rattle.report.specs.Counted.{MoreCases};
 
 use addresses::{RadioAddress, RepeaterNumber};
 use bursts::burst;
 use bursts::burst::Sync;
 use datagrams::Labels;
 use foundation::refusal::Refusal;
-use report::Tally;
+use report::Report;
 use std::io::Write;
 
 fn info() -> [u8; 12] {
@@ -27,73 +27,71 @@ fn damaged() -> [u8; 33] {
 fn number_of<T: Drop>(given: Result<T, Refusal>) -> u32 {
     match given {
         Ok(_) => 0,
-        Err(refusal) => report::wide(refusal.number()),
+        Err(refusal) => u32::from(refusal.number()),
     }
 }
 
-fn written<W: Write>(out: &mut W, t: Tally, text: &[u8], sync: Sync, expected: &[u8]) -> Tally
-    ensures { result.cases ≡ (t.cases + 1) % 2 ^ 32 }
+fn written<W: Write>(report: &mut Report<W>, text: &str, sync: Sync, expected: &[u8])
+    ensures { MoreCases 1 report.old.tally report.new.tally }
 {
     let octets = burst::write(1, 6, info(), sync).unwrap_or([0u8; 33]);
-    report::octets(out, t, b"writing a burst, ", text, &octets, expected)
+    report.octets("writing a burst, ", text, &octets, expected);
 }
 
-fn not_written<W: Write>(out: &mut W, t: Tally, text: &[u8], colour: u8, datatype: u8) -> Tally
-    ensures { result.cases ≡ (t.cases + 1) % 2 ^ 32 }
+fn not_written<W: Write>(report: &mut Report<W>, text: &str, colour: u8, datatype: u8)
+    ensures { MoreCases 1 report.old.tally report.new.tally }
 {
     let number = number_of(burst::write(colour, datatype, info(), Sync::Base));
-    report::number(out, t, b"writing a burst, ", text, 2, number, 16)
+    report.number("writing a burst, ", text, 2, number, 16);
 }
 
-fn read<W: Write>(out: &mut W, t: Tally, text: &[u8], octets: &[u8]) -> Tally
-    ensures { result.cases ≡ (t.cases + 1) % 2 ^ 32 }
+fn read<W: Write>(report: &mut Report<W>, text: &str, octets: &[u8])
+    ensures { MoreCases 1 report.old.tally report.new.tally }
 {
     let found = burst::read(octets).map_or([0u8; 12], |b| b.info);
-    report::octets(out, t, b"reading a burst, ", text, &found, &info())
+    report.octets("reading a burst, ", text, &found, &info());
 }
 
-fn refused<W: Write>(out: &mut W, t: Tally, text: &[u8], octets: &[u8], expected: u32) -> Tally
-    ensures { result.cases ≡ (t.cases + 1) % 2 ^ 32 }
+fn refused<W: Write>(report: &mut Report<W>, text: &str, octets: &[u8], expected: u32)
+    ensures { MoreCases 1 report.old.tally report.new.tally }
 {
-    report::number(
-        out,
-        t,
-        b"reading a burst, ",
+    report.number(
+        "reading a burst, ",
         text,
         1,
         number_of(burst::read(octets)),
         expected,
-    )
+    );
 }
 
-fn written_bursts<W: Write>(out: &mut W, mut t: Tally) -> Tally
-    ensures { result.cases ≡ (t.cases + 4) % 2 ^ 32 }
+fn written_bursts<W: Write>(report: &mut Report<W>)
+    ensures { MoreCases 4 report.old.tally report.new.tally }
 {
     let mobile =
         b"\x02\x59\x29\xbb\x1d\x37\x14\x8a\x25\xd1\x0e\x41\xc5\x8d\x5d\x7f\x77\xfd\x75\x73\x3a\xd4\x69\xbc\x81\x66\x0e\x26\x1c\x00\x08\xa7\xc9";
-    t = written(out, t, b"base", Sync::Base, &whole());
-    t = written(out, t, b"mobile", Sync::Mobile, mobile);
-    t = not_written(out, t, b"colour code 16, number", 16, 6);
-    not_written(out, t, b"data type 2, number", 1, 2)
+    written(report, "base", Sync::Base, &whole());
+    written(report, "mobile", Sync::Mobile, mobile);
+    not_written(report, "colour code 16, number", 16, 6);
+    not_written(report, "data type 2, number", 1, 2);
 }
 
-fn read_bursts<W: Write>(out: &mut W, mut t: Tally) -> Tally
-    ensures { result.cases ≡ (t.cases + 2) % 2 ^ 32 }
+fn read_bursts<W: Write>(report: &mut Report<W>)
+    ensures { MoreCases 2 report.old.tally report.new.tally }
 {
-    t = read(out, t, b"as written", &whole());
-    read(out, t, b"damaged as demand 2 allows", &damaged())
+    read(report, "as written", &whole());
+    read(report, "damaged as demand 2 allows", &damaged());
 }
 
-fn refused_bursts<W: Write>(out: &mut W, mut t: Tally) -> Tally
-    ensures { result.cases ≡ (t.cases + 3) % 2 ^ 32 }
+fn refused_bursts<W: Write>(report: &mut Report<W>)
+    ensures { MoreCases 3 report.old.tally report.new.tally }
 {
     let idle =
         b"\x53\xc2\x5e\xab\xa8\x67\x1d\xc7\x38\x3b\xd9\x36\x00\x0d\xff\x57\xd7\x5d\xf5\xd0\x03\xf6\xe4\x65\x17\x1b\x48\xca\x6d\x4f\xc6\x10\xb4";
     let two =
         b"\x02\x59\x29\xbb\x1d\x37\x94\x8a\x25\xd5\x0e\x49\xc5\x8d\xff\x57\xd7\x5d\xf5\xd3\x3a\xd4\x69\xb8\x81\x66\x0e\x26\x1c\x00\x08\xa7\xc9";
-    t = refused(out, t, b"the idle burst, number", idle, 5);
-    t = refused(out, t, b"two bad columns, number", two, 6);
-    refused(out, t, b"32 octets, number", &[0u8; 32], 1)
+    refused(report, "the idle burst, number", idle, 5);
+    refused(report, "two bad columns, number", two, 6);
+    refused(report, "32 octets, number", &[0u8; 32], 1);
 }
 
 fn labels() -> Labels {
@@ -108,18 +106,16 @@ fn labels() -> Labels {
     }
 }
 
-fn carried<W: Write>(out: &mut W, t: Tally, text: &[u8], octets: &[u8], expected: u32) -> Tally
-    ensures { result.cases ≡ (t.cases + 1) % 2 ^ 32 }
+fn carried<W: Write>(report: &mut Report<W>, text: &str, octets: &[u8], expected: u32)
+    ensures { MoreCases 1 report.old.tally report.new.tally }
 {
-    report::number(
-        out,
-        t,
-        b"reading a datagram, ",
+    report.number(
+        "reading a datagram, ",
         text,
         1,
         number_of(datagrams::read(octets)),
         expected,
-    )
+    );
 }
 
 // The datagram of these labels and the burst above.
@@ -127,99 +123,81 @@ fn datagram_octets() -> [u8; 53] {
     *b"\x44\x4d\x52\x44\xff\x1a\x0b\x0c\x00\x21\x04\x01\x02\x03\x04\xa6\xca\xfe\x00\x01\x02\x59\x29\xbb\x1d\x37\x14\x8a\x25\xd1\x0e\x41\xc5\x8d\xff\x57\xd7\x5d\xf5\xd3\x3a\xd4\x69\xbc\x81\x66\x0e\x26\x1c\x00\x08\xa7\xc9"
 }
 
-fn written_datagram<W: Write>(out: &mut W, t: Tally) -> Tally
-    ensures { result.cases ≡ (t.cases + 1) % 2 ^ 32 }
+fn written_datagram<W: Write>(report: &mut Report<W>)
+    ensures { MoreCases 1 report.old.tally report.new.tally }
 {
     let octets = datagrams::write(labels(), 1, 6, info(), Sync::Base).unwrap_or([0u8; 53]);
-    report::octets(
-        out,
-        t,
-        b"writing a datagram",
-        b"",
-        &octets,
-        &datagram_octets(),
-    )
+    report.octets("writing a datagram", "", &octets, &datagram_octets());
 }
 
 // What it reads as, and the counter of the next one.
-fn read_datagram<W: Write>(out: &mut W, mut t: Tally) -> Tally
-    ensures { result.cases ≡ (t.cases + 3) % 2 ^ 32 }
+fn read_datagram<W: Write>(report: &mut Report<W>)
+    ensures { MoreCases 3 report.old.tally report.new.tally }
 {
     let found = datagrams::read(&datagram_octets());
     let got = found.map_or([0u8; 12], |d| d.info);
     let stream = found.map_or(0, |d| d.labels.stream);
-    t = report::octets(
-        out,
-        t,
-        b"reading this datagram, ",
-        b"information",
-        &got,
-        &info(),
-    );
-    t = report::number(
-        out,
-        t,
-        b"reading this datagram, ",
-        b"stream",
+    report.octets("reading this datagram, ", "information", &got, &info());
+    report.number(
+        "reading this datagram, ",
+        "stream",
         8,
         stream,
         0xCAFE0001,
     );
-    report::number(
-        out,
-        t,
-        b"sequence counter after ",
-        b"ff",
+    report.number(
+        "sequence counter after ",
+        "ff",
         2,
-        report::wide(datagrams::next_sequence(255)),
+        u32::from(datagrams::next_sequence(255)),
         0,
-    )
+    );
 }
 
-fn damaged_datagrams<W: Write>(out: &mut W, mut t: Tally) -> Tally
-    ensures { result.cases ≡ (t.cases + 4) % 2 ^ 32 }
+fn damaged_datagrams<W: Write>(report: &mut Report<W>)
+    ensures { MoreCases 4 report.old.tally report.new.tally }
 {
     let three =
         b"\x44\x4d\x52\x44\xff\x1a\x0b\x0c\x00\x21\x04\x01\x02\x03\x04\xa6\xca\xfe\x00\x01\x02\x59\x29\xbb\x1d\x37\x14\x8a\x25\xd1\x0e\x41\xfd\x8d\xff\x57\xd7\x5d\xf5\xd3\x3a\xd4\x69\xbc\x81\x66\x0e\x26\x1c\x00\x08\xa7\xc9";
     let four =
         b"\x44\x4d\x52\x44\xff\x1a\x0b\x0c\x00\x21\x04\x01\x02\x03\x04\xa6\xca\xfe\x00\x01\x02\x59\x29\xbb\x1d\x37\x14\x8a\x25\xd1\x0e\x41\xf9\x8d\xff\x57\xd7\x5d\xf5\xd3\x3a\xd4\x69\xbc\x81\x66\x0e\x26\x1c\x00\x08\xa7\xc9";
-    t = carried(out, t, b"three wrong slot-type bits, number", three, 0);
-    t = carried(out, t, b"four wrong slot-type bits, number", four, 4);
-    t = carried(out, t, b"53 zeros, number", &[0u8; 53], 2);
-    carried(out, t, b"54 zeros, number", &[0u8; 54], 1)
+    carried(report, "three wrong slot-type bits, number", three, 0);
+    carried(report, "four wrong slot-type bits, number", four, 4);
+    carried(report, "53 zeros, number", &[0u8; 53], 2);
+    carried(report, "54 zeros, number", &[0u8; 54], 1);
 }
 
-fn other_datagrams<W: Write>(out: &mut W, mut t: Tally) -> Tally
-    ensures { result.cases ≡ (t.cases + 2) % 2 ^ 32 }
+fn other_datagrams<W: Write>(report: &mut Report<W>)
+    ensures { MoreCases 2 report.old.tally report.new.tally }
 {
     let frame =
         b"\x44\x4d\x52\x44\xff\x1a\x0b\x0c\x00\x21\x04\x01\x02\x03\x04\x96\xca\xfe\x00\x01\x02\x59\x29\xbb\x1d\x37\x14\x8a\x25\xd1\x0e\x41\xc5\x8d\xff\x57\xd7\x5d\xf5\xd3\x3a\xd4\x69\xbc\x81\x66\x0e\x26\x1c\x00\x08\xa7\xc9";
     let datatype =
         b"\x44\x4d\x52\x44\xff\x1a\x0b\x0c\x00\x21\x04\x01\x02\x03\x04\xa7\xca\xfe\x00\x01\x02\x59\x29\xbb\x1d\x37\x14\x8a\x25\xd1\x0e\x41\xc5\x8d\xff\x57\xd7\x5d\xf5\xd3\x3a\xd4\x69\xbc\x81\x66\x0e\x26\x1c\x00\x08\xa7\xc9";
-    t = carried(out, t, b"frame type 1, number", frame, 3);
-    carried(out, t, b"data type 7 and slot type 6, number", datatype, 5)
+    carried(report, "frame type 1, number", frame, 3);
+    carried(report, "data type 7 and slot type 6, number", datatype, 5);
 }
 
-fn bursts<W: Write>(out: &mut W, mut t: Tally) -> Tally
-    ensures { result.cases ≡ (t.cases + 9) % 2 ^ 32 }
+fn bursts<W: Write>(report: &mut Report<W>)
+    ensures { MoreCases 9 report.old.tally report.new.tally }
 {
-    t = written_bursts(out, t);
-    t = read_bursts(out, t);
-    refused_bursts(out, t)
+    written_bursts(report);
+    read_bursts(report);
+    refused_bursts(report);
 }
 
-fn datagrams<W: Write>(out: &mut W, mut t: Tally) -> Tally
-    ensures { result.cases ≡ (t.cases + 10) % 2 ^ 32 }
+fn datagrams<W: Write>(report: &mut Report<W>)
+    ensures { MoreCases 10 report.old.tally report.new.tally }
 {
-    t = written_datagram(out, t);
-    t = read_datagram(out, t);
-    t = damaged_datagrams(out, t);
-    other_datagrams(out, t)
+    written_datagram(report);
+    read_datagram(report);
+    damaged_datagrams(report);
+    other_datagrams(report);
 }
 
-pub fn cases<W: Write>(out: &mut W, mut t: Tally) -> Tally
-    ensures { result.cases ≡ (t.cases + 19) % 2 ^ 32 }
+pub fn cases<W: Write>(report: &mut Report<W>)
+    ensures { MoreCases 19 report.old.tally report.new.tally }
 {
-    t = bursts(out, t);
-    datagrams(out, t)
+    bursts(report);
+    datagrams(report);
 }

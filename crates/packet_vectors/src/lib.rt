@@ -3,20 +3,21 @@
 // four cases or groups in a row, so no function has more.
 #![tactic(auto)]
 
-ghost use Rattle.std.specs.Prelude.{◌≡◌, ◌+◌, ◌%◌, ◌^◌};
+ghost use Rattle.report.specs.Counted.{MoreCases};
 ghost use Rattle.packet_vectors.specs.Examples.{PExamples};
 
 mod burst_cases;
 mod packet_cases;
 mod receiver_cases;
 
+use report::Report;
 use std::io::Write;
 
-// Writes a line for each case and counts on from t. It also promises that the definitions give the worked examples of PExamples.
-pub fn cases<W: Write>(out: &mut W, mut t: report::Tally) -> report::Tally
-    ensures { (result.cases ≡ (t.cases + 52) % 2 ^ 32) × PExamples }
+// Writes a line for each case and counts them. It also promises that the definitions give the worked examples of PExamples.
+pub fn cases<W: Write>(report: &mut Report<W>)
+    ensures { MoreCases 52 report.old.tally report.new.tally × PExamples }
 {
-    t = packet_cases::cases(out, t);
-    t = burst_cases::cases(out, t);
-    receiver_cases::cases(out, t)
+    packet_cases::cases(report);
+    burst_cases::cases(report);
+    receiver_cases::cases(report);
 }

@@ -1,5 +1,5 @@
 // Headers, blocks, messages and responses, written and read.
-ghost use Rattle.std.specs.Prelude.{◌≡◌, ◌+◌, ◌%◌, ◌^◌};
+ghost use Rattle.report.specs.Counted.{MoreCases};
 
 use addresses::RadioAddress;
 use messages::message::Delivery;
@@ -7,7 +7,7 @@ use messages::response::Reply;
 use messages::{message, response};
 use packets::header::HeaderAnswer;
 use packets::{block, header};
-use report::Tally;
+use report::Report;
 use std::io::Write;
 
 // N(S) 5 and SAP 4, from 1a0b0c to 002104.
@@ -34,316 +34,284 @@ fn back() -> Delivery {
 fn sized(octets: usize) -> u32 {
     let size = message::size_of(octets);
     if size.number != 0 {
-        return report::wide(size.number);
+        return u32::from(size.number);
     }
-    (report::wide(size.blocks) << 8) | report::wide(size.pad)
+    (u32::from(size.blocks) << 8) | u32::from(size.pad)
 }
 
-fn size<W: Write>(out: &mut W, t: Tally, text: &[u8], octets: usize, expected: u32) -> Tally
-    ensures { result.cases ≡ (t.cases + 1) % 2 ^ 32 }
+fn size<W: Write>(report: &mut Report<W>, text: &str, octets: usize, expected: u32)
+    ensures { MoreCases 1 report.old.tally report.new.tally }
 {
-    report::number(
-        out,
-        t,
-        b"blocks and pad of a message, octets ",
+    report.number(
+        "blocks and pad of a message, octets ",
         text,
         4,
         sized(octets),
         expected,
-    )
+    );
 }
 
-fn sizes<W: Write>(out: &mut W, mut t: Tally) -> Tally
-    ensures { result.cases ≡ (t.cases + 3) % 2 ^ 32 }
+fn sizes<W: Write>(report: &mut Report<W>)
+    ensures { MoreCases 3 report.old.tally report.new.tally }
 {
-    t = size(out, t, b"0", 0, 0x0106);
-    t = size(out, t, b"6", 6, 0x0100);
-    size(out, t, b"7", 7, 0x0209)
+    size(report, "0", 0, 0x0106);
+    size(report, "6", 6, 0x0100);
+    size(report, "7", 7, 0x0209);
 }
 
-fn largest_sizes<W: Write>(out: &mut W, mut t: Tally) -> Tally
-    ensures { result.cases ≡ (t.cases + 2) % 2 ^ 32 }
+fn largest_sizes<W: Write>(report: &mut Report<W>)
+    ensures { MoreCases 2 report.old.tally report.new.tally }
 {
-    t = size(out, t, b"626", 626, 0x3F00);
-    size(out, t, b"627, number", 627, 16)
+    size(report, "626", 626, 0x3F00);
+    size(report, "627, number", 627, 16);
 }
 
-fn block_of<W: Write>(out: &mut W, t: Tally, text: &[u8], n: usize, expected: &[u8]) -> Tally
-    ensures { result.cases ≡ (t.cases + 1) % 2 ^ 32 }
+fn block_of<W: Write>(report: &mut Report<W>, text: &str, n: usize, expected: &[u8])
+    ensures { MoreCases 1 report.old.tally report.new.tally }
 {
     let octets = message::block(b"TARE -12.5 mm", n).octets;
-    report::octets(out, t, b"TARE -12.5 mm, ", text, &octets, expected)
+    report.octets("TARE -12.5 mm, ", text, &octets, expected);
 }
 
 // The message of 13 octets in two blocks, with the headers of a whole and of a repeat attempt.
-fn message_octets<W: Write>(out: &mut W, mut t: Tally) -> Tally
-    ensures { result.cases ≡ (t.cases + 4) % 2 ^ 32 }
+fn message_octets<W: Write>(report: &mut Report<W>)
+    ensures { MoreCases 4 report.old.tally report.new.tally }
 {
     let full = message::full_header(13, delivery()).octets;
     let partial = message::partial_header(13, delivery(), 1).octets;
-    t = report::octets(
-        out,
-        t,
-        b"TARE -12.5 mm, ",
-        b"header",
+    report.octets(
+        "TARE -12.5 mm, ",
+        "header",
         &full,
         b"\x43\x43\x00\x21\x04\x1a\x0b\x0c\x82\x58\xdd\xc0",
     );
-    t = report::octets(
-        out,
-        t,
-        b"TARE -12.5 mm, ",
-        b"header of a repeat of one block",
+    report.octets(
+        "TARE -12.5 mm, ",
+        "header of a repeat of one block",
         &partial,
         b"\x43\x43\x00\x21\x04\x1a\x0b\x0c\x01\x58\x93\x0b",
     );
-    t = block_of(
-        out,
-        t,
-        b"block 0",
+    block_of(
+        report,
+        "block 0",
         0,
         b"\x01\xcb\x54\x41\x52\x45\x20\x2d\x31\x32\x2e\x35",
     );
     block_of(
-        out,
-        t,
-        b"block 1",
+        report,
+        "block 1",
         1,
         b"\x02\x6d\x20\x6d\x6d\x00\x00\x00\x43\xf7\x1f\x19",
-    )
+    );
 }
 
 // 0 for a header that is read, else the number of the refusal.
 fn header_number(octets: &[u8]) -> u32 {
     match header::read(octets) {
         HeaderAnswer::Accepted(_) => 0,
-        HeaderAnswer::Refused(number) => report::wide(number),
+        HeaderAnswer::Refused(number) => u32::from(number),
     }
 }
 
-fn read_header<W: Write>(out: &mut W, t: Tally, text: &[u8], octets: &[u8], expected: u32) -> Tally
-    ensures { result.cases ≡ (t.cases + 1) % 2 ^ 32 }
+fn read_header<W: Write>(report: &mut Report<W>, text: &str, octets: &[u8], expected: u32)
+    ensures { MoreCases 1 report.old.tally report.new.tally }
 {
-    report::number(
-        out,
-        t,
-        b"reading a header, ",
+    report.number(
+        "reading a header, ",
         text,
         1,
         header_number(octets),
         expected,
-    )
+    );
 }
 
-fn headers<W: Write>(out: &mut W, mut t: Tally) -> Tally
-    ensures { result.cases ≡ (t.cases + 2) % 2 ^ 32 }
+fn headers<W: Write>(report: &mut Report<W>)
+    ensures { MoreCases 2 report.old.tally report.new.tally }
 {
     let good = b"\x43\x43\x00\x21\x04\x1a\x0b\x0c\x82\x58\xdd\xc0";
     let reserved = b"\x63\x43\x00\x21\x04\x1a\x0b\x0c\x82\x58\xe4\xcd";
-    t = read_header(out, t, b"as written, number", good, 0);
-    read_header(out, t, b"reserved bit 1, number", reserved, 0)
+    read_header(report, "as written, number", good, 0);
+    read_header(report, "reserved bit 1, number", reserved, 0);
 }
 
-fn refused_headers<W: Write>(out: &mut W, mut t: Tally) -> Tally
-    ensures { result.cases ≡ (t.cases + 3) % 2 ^ 32 }
+fn refused_headers<W: Write>(report: &mut Report<W>)
+    ensures { MoreCases 3 report.old.tally report.new.tally }
 {
     let format = b"\x44\x43\x00\x21\x04\x1a\x0b\x0c\x82\x58\xc1\x3a";
     let check = b"\x43\x43\x00\x21\x04\x1a\x0b\x0c\x82\x58\xdd\xc1";
-    t = read_header(out, t, b"format 4, number", format, 9);
-    t = read_header(out, t, b"another check, number", check, 8);
-    read_header(out, t, b"11 octets, number", &[0u8; 11], 1)
+    read_header(report, "format 4, number", format, 9);
+    read_header(report, "another check, number", check, 8);
+    read_header(report, "11 octets, number", &[0u8; 11], 1);
 }
 
-fn read_block<W: Write>(out: &mut W, t: Tally, text: &[u8], octets: &[u8], expected: u32) -> Tally
-    ensures { result.cases ≡ (t.cases + 1) % 2 ^ 32 }
+fn read_block<W: Write>(report: &mut Report<W>, text: &str, octets: &[u8], expected: u32)
+    ensures { MoreCases 1 report.old.tally report.new.tally }
 {
-    report::number(
-        out,
-        t,
-        b"reading a block, ",
+    report.number(
+        "reading a block, ",
         text,
         1,
-        report::wide(block::read(octets).number),
+        u32::from(block::read(octets).number),
         expected,
-    )
+    );
 }
 
 fn write_block<W: Write>(
-    out: &mut W,
-    t: Tally,
-    text: &[u8],
+    report: &mut Report<W>,
+    text: &str,
     serial: u8,
     octets: &[u8],
     expected: u32,
-) -> Tally
-    ensures { result.cases ≡ (t.cases + 1) % 2 ^ 32 }
+)
+    ensures { MoreCases 1 report.old.tally report.new.tally }
 {
-    report::number(
-        out,
-        t,
-        b"writing a block, ",
+    report.number(
+        "writing a block, ",
         text,
         2,
-        report::wide(block::write(serial, octets).number),
+        u32::from(block::write(serial, octets).number),
         expected,
-    )
+    );
 }
 
-fn read_blocks<W: Write>(out: &mut W, mut t: Tally) -> Tally
-    ensures { result.cases ≡ (t.cases + 3) % 2 ^ 32 }
+fn read_blocks<W: Write>(report: &mut Report<W>)
+    ensures { MoreCases 3 report.old.tally report.new.tally }
 {
     let good = b"\x01\xcb\x54\x41\x52\x45\x20\x2d\x31\x32\x2e\x35";
     let bad = b"\x01\xcb\x54\x41\x52\x45\x20\x2d\x31\x32\x2e\x36";
-    t = read_block(out, t, b"as written, number", good, 0);
-    t = read_block(out, t, b"another octet, number", bad, 13);
-    read_block(out, t, b"13 octets, number", &[0u8; 13], 1)
+    read_block(report, "as written, number", good, 0);
+    read_block(report, "another octet, number", bad, 13);
+    read_block(report, "13 octets, number", &[0u8; 13], 1);
 }
 
-fn written_blocks<W: Write>(out: &mut W, mut t: Tally) -> Tally
-    ensures { result.cases ≡ (t.cases + 3) % 2 ^ 32 }
+fn written_blocks<W: Write>(report: &mut Report<W>)
+    ensures { MoreCases 3 report.old.tally report.new.tally }
 {
-    t = write_block(out, t, b"serial 127, number", 127, &[0u8; 10], 0);
-    t = write_block(out, t, b"serial 128, number", 128, &[0u8; 10], 16);
-    write_block(out, t, b"9 octets, number", 0, &[0u8; 9], 1)
+    write_block(report, "serial 127, number", 127, &[0u8; 10], 0);
+    write_block(report, "serial 128, number", 128, &[0u8; 10], 16);
+    write_block(report, "9 octets, number", 0, &[0u8; 9], 1);
 }
 
 fn flags() -> [u8; 8] {
     *b"\xfd\xff\xff\xff\xff\xff\xff\xff"
 }
 
-fn reply<W: Write>(out: &mut W, t: Tally, text: &[u8], kind: Reply, expected: &[u8]) -> Tally
-    ensures { result.cases ≡ (t.cases + 1) % 2 ^ 32 }
+fn reply<W: Write>(report: &mut Report<W>, text: &str, kind: Reply, expected: &[u8])
+    ensures { MoreCases 1 report.old.tally report.new.tally }
 {
     let octets = response::write(kind, back(), flags()).header;
-    report::octets(out, t, b"response, N(S) 5, ", text, &octets, expected)
+    report.octets("response, N(S) 5, ", text, &octets, expected);
 }
 
-fn replies<W: Write>(out: &mut W, mut t: Tally) -> Tally
-    ensures { result.cases ≡ (t.cases + 3) % 2 ^ 32 }
+fn replies<W: Write>(report: &mut Report<W>)
+    ensures { MoreCases 3 report.old.tally report.new.tally }
 {
-    t = reply(
-        out,
-        t,
-        b"ACK",
+    reply(
+        report,
+        "ACK",
         Reply::Ack,
         b"\x01\x40\x1a\x0b\x0c\x00\x21\x04\x00\x0d\xa3\x3c",
     );
-    t = reply(
-        out,
-        t,
-        b"NACK",
+    reply(
+        report,
+        "NACK",
         Reply::Nack,
         b"\x01\x40\x1a\x0b\x0c\x00\x21\x04\x00\x4d\xeb\xf8",
     );
     reply(
-        out,
-        t,
-        b"SACK",
+        report,
+        "SACK",
         Reply::Sack,
         b"\x01\x40\x1a\x0b\x0c\x00\x21\x04\x01\x85\x80\x8d",
-    )
+    );
 }
 
-fn sack_block<W: Write>(out: &mut W, t: Tally) -> Tally
-    ensures { result.cases ≡ (t.cases + 1) % 2 ^ 32 }
+fn sack_block<W: Write>(report: &mut Report<W>)
+    ensures { MoreCases 1 report.old.tally report.new.tally }
 {
     let data = response::write(Reply::Sack, back(), flags()).block;
-    report::octets(
-        out,
-        t,
-        b"data block of this SACK, ",
-        b"block 1 of 3 missing",
+    report.octets(
+        "data block of this SACK, ",
+        "block 1 of 3 missing",
         &data,
         b"\xfd\xff\xff\xff\xff\xff\xff\xff\x00\xb6\xae\x30",
-    )
+    );
 }
 
-fn heard<W: Write>(
-    out: &mut W,
-    t: Tally,
-    text: &[u8],
-    header: &[u8],
-    data: &[u8],
-    expected: u32,
-) -> Tally
-    ensures { result.cases ≡ (t.cases + 1) % 2 ^ 32 }
+fn heard<W: Write>(report: &mut Report<W>, text: &str, header: &[u8], data: &[u8], expected: u32)
+    ensures { MoreCases 1 report.old.tally report.new.tally }
 {
-    report::number(
-        out,
-        t,
-        b"reading a response, ",
+    report.number(
+        "reading a response, ",
         text,
         1,
-        report::wide(response::read(header, data).number),
+        u32::from(response::read(header, data).number),
         expected,
-    )
+    );
 }
 
-fn readings<W: Write>(out: &mut W, mut t: Tally) -> Tally
-    ensures { result.cases ≡ (t.cases + 2) % 2 ^ 32 }
+fn readings<W: Write>(report: &mut Report<W>)
+    ensures { MoreCases 2 report.old.tally report.new.tally }
 {
     let ack = b"\x01\x40\x1a\x0b\x0c\x00\x21\x04\x00\x0d\xa3\x3c";
     let sack = b"\x01\x40\x1a\x0b\x0c\x00\x21\x04\x01\x85\x80\x8d";
     let data = b"\xfd\xff\xff\xff\xff\xff\xff\xff\x00\xb6\xae\x30";
     let found = response::read(sack, data).flags;
-    t = report::octets(
-        out,
-        t,
-        b"reading a response, ",
-        b"flags of the SACK",
+    report.octets(
+        "reading a response, ",
+        "flags of the SACK",
         &found,
         &flags(),
     );
-    heard(out, t, b"ACK and no data, number", ack, b"", 0)
+    heard(report, "ACK and no data, number", ack, b"", 0);
 }
 
-fn refused_readings<W: Write>(out: &mut W, mut t: Tally) -> Tally
-    ensures { result.cases ≡ (t.cases + 3) % 2 ^ 32 }
+fn refused_readings<W: Write>(report: &mut Report<W>)
+    ensures { MoreCases 3 report.old.tally report.new.tally }
 {
     let sack = b"\x01\x40\x1a\x0b\x0c\x00\x21\x04\x01\x85\x80\x8d";
     let other = b"\xfd\xff\xff\xff\xff\xff\xff\xff\x00\xb6\xae\x31";
-    t = heard(out, t, b"SACK and no data, number", sack, b"", 1);
-    t = heard(out, t, b"SACK with another check, number", sack, other, 13);
+    heard(report, "SACK and no data, number", sack, b"", 1);
+    heard(report, "SACK with another check, number", sack, other, 13);
     heard(
-        out,
-        t,
-        b"a confirmed header, number",
+        report,
+        "a confirmed header, number",
         b"\x43\x43\x00\x21\x04\x1a\x0b\x0c\x82\x58\xdd\xc0",
         b"",
         9,
-    )
+    );
 }
 
-fn messages<W: Write>(out: &mut W, mut t: Tally) -> Tally
-    ensures { result.cases ≡ (t.cases + 9) % 2 ^ 32 }
+fn messages<W: Write>(report: &mut Report<W>)
+    ensures { MoreCases 9 report.old.tally report.new.tally }
 {
-    t = sizes(out, t);
-    t = largest_sizes(out, t);
-    message_octets(out, t)
+    sizes(report);
+    largest_sizes(report);
+    message_octets(report);
 }
 
-fn headers_and_blocks<W: Write>(out: &mut W, mut t: Tally) -> Tally
-    ensures { result.cases ≡ (t.cases + 11) % 2 ^ 32 }
+fn headers_and_blocks<W: Write>(report: &mut Report<W>)
+    ensures { MoreCases 11 report.old.tally report.new.tally }
 {
-    t = headers(out, t);
-    t = refused_headers(out, t);
-    t = read_blocks(out, t);
-    written_blocks(out, t)
+    headers(report);
+    refused_headers(report);
+    read_blocks(report);
+    written_blocks(report);
 }
 
-fn responses<W: Write>(out: &mut W, mut t: Tally) -> Tally
-    ensures { result.cases ≡ (t.cases + 9) % 2 ^ 32 }
+fn responses<W: Write>(report: &mut Report<W>)
+    ensures { MoreCases 9 report.old.tally report.new.tally }
 {
-    t = replies(out, t);
-    t = sack_block(out, t);
-    t = readings(out, t);
-    refused_readings(out, t)
+    replies(report);
+    sack_block(report);
+    readings(report);
+    refused_readings(report);
 }
 
-pub fn cases<W: Write>(out: &mut W, mut t: Tally) -> Tally
-    ensures { result.cases ≡ (t.cases + 29) % 2 ^ 32 }
+pub fn cases<W: Write>(report: &mut Report<W>)
+    ensures { MoreCases 29 report.old.tally report.new.tally }
 {
-    t = messages(out, t);
-    t = headers_and_blocks(out, t);
-    responses(out, t)
+    messages(report);
+    headers_and_blocks(report);
+    responses(report);
 }

@@ -1,11 +1,11 @@
 // Messages given to a receiver, and its responses.
-ghost use Rattle.std.specs.Prelude.{◌≡◌, ◌+◌, ◌%◌, ◌^◌};
+ghost use Rattle.report.specs.Counted.{MoreCases};
 
 use addresses::RadioAddress;
 use messages::response::ResponseOctets;
 use receiver::event::Answer;
 use receiver_state::{Receiver, STORE};
-use report::Tally;
+use report::Report;
 use std::io::Write;
 use transactions::header::Transaction;
 
@@ -50,64 +50,52 @@ fn looped(store: &mut [u8]) -> u32 {
 }
 
 // The octets that stand in front in a store.
-fn front<W: Write>(
-    out: &mut W,
-    t: Tally,
-    subject: &[u8],
-    text: &[u8],
-    store: &[u8],
-    expected: &[u8],
-) -> Tally
-    ensures { result.cases ≡ (t.cases + 1) % 2 ^ 32 }
+fn front<W: Write>(report: &mut Report<W>, subject: &str, text: &str, store: &[u8], expected: &[u8])
+    ensures { MoreCases 1 report.old.tally report.new.tally }
 {
     let n = expected.len();
     if store.len() < n {
-        return report::octets(out, t, subject, text, store, expected);
+        return report.octets(subject, text, store, expected);
     }
-    report::octets(out, t, subject, text, &store[..n], expected)
+    report.octets(subject, text, &store[..n], expected);
 }
 
-fn responses<W: Write>(out: &mut W, mut t: Tally) -> Tally
-    ensures { result.cases ≡ (t.cases + 2) % 2 ^ 32 }
+fn responses<W: Write>(report: &mut Report<W>)
+    ensures { MoreCases 2 report.old.tally report.new.tally }
 {
     let r = response();
-    t = report::octets(
-        out,
-        t,
-        b"end of attempt, block 1 of 3 missing",
-        b"",
+    report.octets(
+        "end of attempt, block 1 of 3 missing",
+        "",
         &r.header,
         b"\x01\x40\x1A\x0B\x0C\x00\x21\x04\x01\x85\x80\x8D",
     );
-    report::octets(
-        out,
-        t,
-        b"its data block",
-        b"",
+    report.octets(
+        "its data block",
+        "",
         &r.block,
         b"\xFD\xFF\xFF\xFF\xFF\xFF\xFF\xFF\x00\xB6\xAE\x30",
-    )
+    );
 }
 
-fn messages<W: Write>(out: &mut W, mut t: Tally) -> Tally
-    ensures { result.cases ≡ (t.cases + 2) % 2 ^ 32 }
+fn messages<W: Write>(report: &mut Report<W>)
+    ensures { MoreCases 2 report.old.tally report.new.tally }
 {
     let mut store = [0u8; STORE];
     let n = looped(&mut store);
-    t = report::number(out, t, b"TARE -12.5 mm, octets handed on", b"", 1, n, 13);
+    report.number("TARE -12.5 mm, octets handed on", "", 1, n, 13);
     front(
-        out,
-        t,
-        b"the message in the store",
-        b"",
+        report,
+        "the message in the store",
+        "",
         &store,
         b"TARE -12.5 mm",
-    )
+    );
 }
 
-pub fn cases<W: Write>(out: &mut W, mut t: Tally) -> Tally
-    ensures { result.cases ≡ (t.cases + 4) % 2 ^ 32 }
+pub fn cases<W: Write>(report: &mut Report<W>)
+    ensures { MoreCases 4 report.old.tally report.new.tally }
 {
-    t = responses(out, t);
-    messages(out, t)
+    responses(report);
+    messages(report);
 }

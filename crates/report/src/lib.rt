@@ -1,187 +1,168 @@
 // The lines of a program that runs worked examples, and their count.
 #![tactic(auto)]
 
-ghost use Rattle.std.specs.Prelude.{◌≡◌, ℕ, ◌+◌, ◌%◌, ◌^◌, Bool, false, List};
+ghost use Rattle.std.specs.Prelude.{◌≡◌, ℕ, Bool, true, List, None, IsSome};
 ghost use Rattle.report.specs.Counted.{Counted};
 
+use std::fmt::{Display, Formatter};
 use std::io::Write;
+use std::{fmt, io};
 
-// How many cases have run, how many of them went wrong, and whether all that was to be written has been.
+// How many cases have run, how many of them went wrong, and why something that was to be written could not be, the last time.
 #[derive(Clone, Copy)]
 pub struct Tally {
     pub cases: u32,
     pub wrong: u32,
-    pub written: bool,
+    pub failed: Option<io::Error>,
 }
 
-// An octet as a number.
-pub fn wide(octet: u8) -> u32
-    ensures { result ≡ octet }
-{
-    octet as u32
+// What the lines are written to, and their count.
+#[derive(Drop)]
+pub struct Report<W> {
+    out: W,
+    pub tally: Tally,
 }
 
-// What writes says whether it could.
-fn put<W: Write>(out: &mut W, text: &[u8]) -> bool {
-    out.write_all(text).is_ok()
-}
-
-fn put_hex<W: Write>(out: &mut W, value: u32, digits: usize) -> bool {
-    let mut text = [0u8; 16];
-    let size = io::hex(value as u64, digits, &mut text);
-    put(out, &text[..size])
-}
-
-fn put_decimal<W: Write>(out: &mut W, value: u32) -> bool {
-    let mut text = [0u8; 20];
-    let size = io::decimal(value as u64, &mut text);
-    put(out, &text[..size])
-}
-
-// The start of a line, the name of the case: what is computed, and of what.
-fn put_name<W: Write>(out: &mut W, subject: &[u8], text: &[u8]) -> bool {
-    put(out, subject) & put(out, text) & put(out, b": ")
-}
-
-// These counts, with a line that was written or not. What could not be written once stays so.
-fn tallied(t: Tally, cases: u32, wrong: u32, line: bool) -> Tally
-    ensures { (result.cases ≡ cases) × (result.wrong ≡ wrong) × (t.written ≡ false → result.written ≡ false) }
-{
-    Tally {
-        cases,
-        wrong,
-        written: t.written & line,
-    }
-}
-
-// The end of the line of a case that went right; what stands before it was written or not.
-fn right<W: Write>(out: &mut W, t: Tally, line: bool) -> Tally
-    ensures { (result.cases ≡ (t.cases + 1) % 2 ^ 32) × (result.wrong ≡ t.wrong) × (t.written ≡ false → result.written ≡ false) }
-{
-    let end = put(out, b" ok\n");
-    tallied(
-        t,
-        std::num::wrapping_add_u32(t.cases, 1),
-        t.wrong,
-        line & end,
-    )
-}
-
-// The end of the line of a case that went wrong.
-fn wrong<W: Write>(out: &mut W, t: Tally, line: bool) -> Tally
-    ensures { (result.cases ≡ (t.cases + 1) % 2 ^ 32) × (result.wrong ≡ (t.wrong + 1) % 2 ^ 32) × (t.written ≡ false → result.written ≡ false) }
-{
-    let end = put(out, b"\n");
-    let cases = std::num::wrapping_add_u32(t.cases, 1);
-    tallied(t, cases, std::num::wrapping_add_u32(t.wrong, 1), line & end)
-}
-
-// A case whose value is a number, in at least so many hexadecimal digits.
-pub fn number<W: Write>(
-    out: &mut W,
-    t: Tally,
-    subject: &[u8],
-    text: &[u8],
-    digits: usize,
+// A number in at least so many hexadecimal digits.
+#[derive(Clone, Copy)]
+struct Hex {
     value: u32,
-    expected: u32,
-) -> Tally
-    ensures { Counted ℕ value expected t result }
-{
-    let line = put_name(out, subject, text) & put_hex(out, value, digits);
-    if value == expected {
-        return right(out, t, line);
+    digits: usize,
+}
+
+impl Display for Hex {
+    fn fmt<W: fmt::Write>(&self, f: &mut Formatter<W>) -> fmt::Result {
+        let digits = self.digits;
+        let value = self.value;
+        write!(f, "{value:0digits$x}")
     }
-    let other = put(out, b" wrong, not ") & put_hex(out, expected, digits);
-    wrong(out, t, line & other)
 }
 
-// A case whose value is yes or no, as 1 or 0.
-pub fn answer<W: Write>(
-    out: &mut W,
-    t: Tally,
-    subject: &[u8],
-    text: &[u8],
-    value: bool,
-    expected: bool,
-) -> Tally
-    ensures { Counted Bool value expected t result }
-{
-    number(out, t, subject, text, 1, value as u32, expected as u32)
-}
+// Octets stand close, in hexadecimal.
+#[derive(Clone, Copy)]
+struct Octets<'a>(&'a [u8]);
 
-// Element i of a run: octets stand close, in hexadecimal, and positions apart, in decimal.
-fn put_element<W: Write>(out: &mut W, decimal: bool, i: usize, value: u8) -> bool {
-    if !decimal {
-        return put_hex(out, wide(value), 2);
+impl<'a> Display for Octets<'a> {
+    fn fmt<W: fmt::Write>(&self, f: &mut Formatter<W>) -> fmt::Result {
+        for octet in self.0 {
+            write!(f, "{octet:02x}")?;
+        }
+        Ok(())
     }
-    if i == 0 {
-        return put_decimal(out, wide(value));
+}
+
+// Positions stand apart, in decimal.
+#[derive(Clone, Copy)]
+struct Positions<'a>(&'a [u8]);
+
+impl<'a> Display for Positions<'a> {
+    fn fmt<W: fmt::Write>(&self, f: &mut Formatter<W>) -> fmt::Result {
+        for (i, position) in self.0.iter().enumerate() {
+            if i > 0 {
+                write!(f, " ")?;
+            }
+            write!(f, "{position}")?;
+        }
+        Ok(())
     }
-    put(out, b" ") & put_decimal(out, wide(value))
 }
 
-fn put_run<W: Write>(out: &mut W, decimal: bool, run: &[u8]) -> bool {
-    let mut all = true;
-    for i in 0..run.len() {
-        all = put_element(out, decimal, i, run[i]) & all;
+impl<W: Write> Report<W> {
+    pub fn new(out: W) -> Report<W>
+        ensures { (result.tally.cases ≡ 0) × (result.tally.wrong ≡ 0) × (result.tally.failed ≡ None) }
+    {
+        Report {
+            out,
+            tally: Tally {
+                cases: 0,
+                wrong: 0,
+                failed: None,
+            },
+        }
     }
-    all
-}
 
-fn run<W: Write>(
-    out: &mut W,
-    t: Tally,
-    name: bool,
-    decimal: bool,
-    value: &[u8],
-    expected: &[u8],
-) -> Tally
-    ensures { Counted (List ℕ) value.now expected.now t result }
-{
-    let line = name & put_run(out, decimal, value);
-    if check::same(value, expected) {
-        return right(out, t, line);
+    // A case, whose line was written or not.
+    fn count(&mut self, right: bool, line: io::Result<()>)
+        ensures { Counted Bool right true self.old.tally self.new.tally }
+    {
+        self.tally.cases = self.tally.cases.wrapping_add(1);
+        if !right {
+            self.tally.wrong = self.tally.wrong.wrapping_add(1);
+        }
+        if let Err(error) = line {
+            self.tally.failed = Some(error);
+        }
     }
-    let other = put(out, b" wrong, not ") & put_run(out, decimal, expected);
-    wrong(out, t, line & other)
-}
 
-// A case whose value is a run of octets.
-pub fn octets<W: Write>(
-    out: &mut W,
-    t: Tally,
-    subject: &[u8],
-    text: &[u8],
-    value: &[u8],
-    expected: &[u8],
-) -> Tally
-    ensures { Counted (List ℕ) value.now expected.now t result }
-{
-    let name = put_name(out, subject, text);
-    run(out, t, name, false, value, expected)
-}
+    // The line of a case: its name, what was computed, and of what; and what it should be.
+    fn case<D: Display + Drop>(
+        &mut self,
+        subject: &str,
+        text: &str,
+        right: bool,
+        value: D,
+        expected: D,
+    )
+        ensures { Counted Bool right true self.old.tally self.new.tally }
+    {
+        let line = if right {
+            writeln!(self.out, "{subject}{text}: {value} ok")
+        } else {
+            writeln!(self.out, "{subject}{text}: {value} wrong, not {expected}")
+        };
+        self.count(right, line);
+    }
 
-// A case whose value is a run of positions.
-pub fn positions<W: Write>(
-    out: &mut W,
-    t: Tally,
-    subject: &[u8],
-    text: &[u8],
-    value: &[u8],
-    expected: &[u8],
-) -> Tally
-    ensures { Counted (List ℕ) value.now expected.now t result }
-{
-    let name = put_name(out, subject, text);
-    run(out, t, name, true, value, expected)
-}
+    // A case whose value is a number, in at least so many hexadecimal digits.
+    pub fn number(&mut self, subject: &str, text: &str, digits: usize, value: u32, expected: u32)
+        ensures { Counted ℕ value expected self.old.tally self.new.tally }
+    {
+        let hex = |value| Hex { value, digits };
+        self.case(subject, text, value == expected, hex(value), hex(expected));
+    }
 
-// The last line. It changes no count.
-pub fn close<W: Write>(out: &mut W, t: Tally) -> Tally
-    ensures { (result.cases ≡ t.cases) × (result.wrong ≡ t.wrong) × (t.written ≡ false → result.written ≡ false) }
-{
-    let cases = put_decimal(out, t.cases) & put(out, b" cases, ");
-    let wrong = put_decimal(out, t.wrong) & put(out, b" wrong\n");
-    tallied(t, t.cases, t.wrong, cases & wrong)
+    // A case whose value is yes or no, as 1 or 0.
+    pub fn answer(&mut self, subject: &str, text: &str, value: bool, expected: bool)
+        ensures { Counted Bool value expected self.old.tally self.new.tally }
+    {
+        self.number(subject, text, 1, u32::from(value), u32::from(expected));
+    }
+
+    // A case whose value is a run of octets.
+    pub fn octets(&mut self, subject: &str, text: &str, value: &[u8], expected: &[u8])
+        ensures { Counted (List ℕ) value.now expected.now self.old.tally self.new.tally }
+    {
+        self.case(
+            subject,
+            text,
+            value == expected,
+            Octets(value),
+            Octets(expected),
+        );
+    }
+
+    // A case whose value is a run of positions.
+    pub fn positions(&mut self, subject: &str, text: &str, value: &[u8], expected: &[u8])
+        ensures { Counted (List ℕ) value.now expected.now self.old.tally self.new.tally }
+    {
+        self.case(
+            subject,
+            text,
+            value == expected,
+            Positions(value),
+            Positions(expected),
+        );
+    }
+
+    // The last line. It changes no count.
+    pub fn close(&mut self)
+        ensures { (self.new.tally.cases ≡ self.old.tally.cases) × (self.new.tally.wrong ≡ self.old.tally.wrong)
+            × (IsSome self.old.tally.failed → IsSome self.new.tally.failed) }
+    {
+        let cases = self.tally.cases;
+        let wrong = self.tally.wrong;
+        if let Err(error) = writeln!(self.out, "{cases} cases, {wrong} wrong") {
+            self.tally.failed = Some(error);
+        }
+    }
 }

@@ -9,6 +9,7 @@ mod check_cases;
 mod slot_types;
 
 use inputs::causes;
+use report::Report;
 use std::env::{Env, FillError};
 
 fn main(rt: HostRuntime) {
@@ -16,19 +17,14 @@ fn main(rt: HostRuntime) {
         let _ = eprintln!(rt; "usage: vectors");
         return;
     }
-    let mut out = causes::begun(rt.stdout());
-    let none = report::Tally {
-        cases: 0,
-        wrong: 0,
-        written: true,
-    };
-    let slots = slot_types::cases(&mut out, none);
-    let fields = block_fields::cases(&mut out, slots);
-    let codes = check_cases::cases(&mut out, fields);
-    let packets = packet_vectors::cases(&mut out, codes);
-    let all = report::close(&mut out, packets);
-    if !all.written {
-        let cause = causes::cause(rt.alloc(), out.error);
+    let mut report = Report::new(rt.stdout());
+    slot_types::cases(&mut report);
+    block_fields::cases(&mut report);
+    check_cases::cases(&mut report);
+    packet_vectors::cases(&mut report);
+    report.close();
+    if let Some(error) = report.tally.failed {
+        let cause = causes::cause(rt.alloc(), error);
         let _ = eprintln!(rt; "vectors: standard output{cause}");
     }
 }

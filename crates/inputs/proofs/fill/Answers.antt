@@ -1,27 +1,23 @@
 -- `inputs::fill` meets its contract.
 -- Assumes nothing.
 use Rattle.std.proofs.Common.{◌∙◌, arith}
+use Rattle.std.proofs.lemmas.Result.{err_from_is_err_and}
 use Rattle.inputs.proofs.Known.{consumes_behind}
 use Rattle.inputs.proofs.fill.Goals as goal
 
-pub returns-then-r-clause-taken : goal.returns-then-r-clause-taken
-returns-then-r-clause-taken g c =
-    let r = c.read_behind-r in
-    consumes_behind _ _ _ c.loop-size.octets c.loop-size.size r.result _ r.ensures.behind c.loop-size.invariant.2 r.ensures.taken
-
-pub returns-then-r-size-clause-taken : goal.returns-then-r-size-clause-taken
-returns-then-r-size-clause-taken g c =
-    let r = c.read_behind-r in
-    consumes_behind _ _ _ c.loop-size.octets c.loop-size.size r.result _ r.ensures.behind c.loop-size.invariant.2 r.ensures.taken
+pub returns-in_err-more-clause-taken : goal.returns-in_err-more-clause-taken
+returns-in_err-more-clause-taken g c =
+    let p = err_from_is_err_and c.from_residual.result c.from_residual.ensures.1 in
+    let l = c.loop-size in
+    let m = c.in_err-more in
+    rw (p.1, p.2) (consumes_behind _ _ _ l.octets l.size m.field-0.0.size _ m.ensures.behind l.invariant.2 m.ensures.taken)
 
 pub loop-size-preserved : goal.loop-size-preserved
 loop-size-preserved g c =
-    let r = c.read_behind-r in
-    let l = c.loop-size in (
-      omega (arith, r.ensures.behind.inside l.invariant.0, r.auto.input),
+    let l = c.loop-size in
+    let r = c.read_behind in
+    let m = c.in_ok-more in (
+      omega (arith, m.ensures.behind.inside l.invariant.0, r.auto.input),
       r.auto.input ∙ l.invariant.1,
-      consumes_behind _ _ _ l.octets l.size r.result _ r.ensures.behind l.invariant.2 r.ensures.taken,
+      consumes_behind _ _ _ l.octets l.size m.more _ m.ensures.behind l.invariant.2 m.ensures.taken,
     )
-
-pub returns-clause-taken : goal.returns-clause-taken
-returns-clause-taken g c = c.loop-size.invariant.2

@@ -1,23 +1,18 @@
 -- `listings::close` meets its contract.
 -- Assumes nothing.
-use Rattle.std.proofs.Common.{ℕ, ◌+◌, ◌%◌, ◌^◌, replicate, sym, refl, ap, ◌∙◌, zero-add, arith, length-take-le}
+use Rattle.std.proofs.Common.{sym, ◌∙◌, arith}
 use Rattle.captures.specs.Lines.{closing}
 use Rattle.captures.proofs.Lines.{length-closing}
-use Rattle.texts.proofs.Writing.{end_within, end_inside}
+use Rattle.texts.proofs.Writing.{end_within, end_inside, wrote_front}
 use Rattle.listings.proofs.close.Goals as goal
 
-pub slice_bounds-text-end : goal.slice_bounds-text-end
-slice_bounds-text-end g c = let k = c.close-end in omega (arith, k.ensures.0, end_within (replicate 67 0) 0 (closing c.args.listing c.args.c) (omega arith), k.auto.text)
-
-pub slice_bounds-put-end : goal.slice_bounds-put-end
-slice_bounds-put-end g c =
-    let k = c.close-end in
-    sym (length-take-le _ _ (omega (arith, k.ensures.0, end_within (replicate 67 0) 0 (closing c.args.listing c.args.c) (omega arith), k.auto.text)))
-
 pub returns : goal.returns
-returns g c =
+returns c =
     let a = c.args in
-    let k = c.close-end in
+    let k = c.close in
+    let last = closing a.listing a.c in
     let few = length-closing a.c (omega arith) (omega arith) (omega arith) a.listing in
-    let end = k.ensures.0 ∙ sym (end_inside (replicate 67 0) 0 (closing a.listing a.c) (omega (arith, few))) ∙ zero-add _ in
-    (refl, c.wrapping_add_u64.ensures.value ∙ ap (λ (n : ℕ). (a.written + n) % 2 ^ 64) end)
+    let long = k.ensures.0 ∙ sym (end_inside a.text.now 0 last (omega (arith, few, c.requires))) in (
+      omega (arith, k.ensures.0, end_within a.text.now 0 last (omega arith), k.auto.text),
+      wrote_front last a.text.now k.result k.new.text (omega (arith, few, c.requires)) (long, k.ensures.1),
+    )

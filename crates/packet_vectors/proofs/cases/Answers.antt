@@ -5,4 +5,4 @@ use Rattle.packet_vectors.proofs.Examples.{examples}
 use Rattle.packet_vectors.proofs.cases.Goals as goal
 
 pub returns : goal.returns
-returns g c = (omega (arith, c.cases-t.ensures, c.cases-t-2.ensures, c.cases.ensures), examples)
+returns g c = (omega (arith, c.cases.ensures, c.cases-2.ensures, c.cases-3.ensures), examples)
