@@ -247,9 +247,9 @@ event-kind Other os e = never e refl
 
 -- a datagram that brings x
 module _ (d : List ℕ) (x : Arrival) (is : arrival_given (arrival_of d) ≡ Ok x) (k : ℕ) (e : k ≡ kind_number x.kind) where
-  pub brought_number : Ok tt ≡ outcome (number_before (a_datagram d)) tt
+  pub brought_number : ◌≡◌ {A = Result (Unit {0}) Refusal} (Ok tt) (outcome (number_before (a_datagram d)) tt)
   unfolding arrival_of number_before outcome
-  brought_number = sym (ap (λ (n : ℕ). outcome n tt) (taken-number d x is))
+  brought_number = sym (ap (λ (n : ℕ). outcome {A = Unit {0}} n tt) (taken-number d x is))
 
   pub brought_record : record_asked (a_datagram d) ≡ record_of k x.octets
   unfolding record_asked
@@ -260,7 +260,7 @@ module _ (d : List ℕ) (x : Arrival) (is : arrival_given (arrival_of d) ≡ Ok 
 
 -- a datagram that is refused
 module _ (d : List ℕ) (r : Refusal) (is : arrival_given (arrival_of d) ≡ Err r) where
-  pub untaken_found : Err r ≡ outcome (number_before (a_datagram d)) tt
+  pub untaken_found : ◌≡◌ {A = Result (Unit {0}) Refusal} (Err r) (outcome (number_before (a_datagram d)) tt)
   unfolding arrival_of arrival_given number_before
   untaken_found = sym (err_any _ _ tt r is)
 
