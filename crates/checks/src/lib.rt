@@ -14,16 +14,14 @@ const BLOCK: u32 = 0x2C80_0000;
 
 const MESSAGE: u32 = 0x04C1_1DB7;
 
-// The first k octets as a number.
-fn front(octets: &[u8], k: usize) -> u64
-    requires { (k < 8) × (k ≤ length octets.now) }
-    ensures { result ≡ value_of (octet_bit octets.now) 0 (8 * k) }
+// Fewer than eight octets as a number.
+fn front(octets: &[u8]) -> u64
+    requires { length octets.now < 8 }
+    ensures { result ≡ value_of (octet_bit octets.now) 0 (8 * length octets.now) }
 {
     let mut w: u64 = 0;
-    let mut j: usize = 0;
-    while j < k {
-        w = 256 * w + octets[j] as u64;
-        j += 1;
+    for octet in octets {
+        w = 256 * w + *octet as u64;
     }
     w
 }
@@ -33,13 +31,10 @@ fn front(octets: &[u8], k: usize) -> u64
 fn header_words(octets: &[u8]) -> u64
     ensures { result ≡ remainder 64 header_fourth (octet_bit octets.now) (8 * length octets.now) }
 {
-    let n = octets.len();
-    let mut i = n % 8;
-    let mut w = front(octets, i);
-    while i < n {
-        let word = foundation::octets::whole_word(octets, i);
-        w = folds::header::take_word(w, word);
-        i += 8;
+    let (first, words) = octets.as_rchunks::<8>();
+    let mut w = front(first);
+    for word in words {
+        w = folds::header::take_word(w, u64::from_be_bytes(*word));
     }
     w
 }
@@ -62,13 +57,10 @@ pub fn header(mask: u16, octets: &[u8]) -> u16
 pub fn header_good(mask: u16, octets: &[u8]) -> bool
     ensures { result ≡ header_good mask octets.now }
 {
-    let n = octets.len();
-    if n < 2 {
+    let Some((front, stored)) = octets.split_last_chunk::<2>() else {
         return false;
-    }
-    let stored = joined(octets[n - 2], octets[n - 1]);
-    let m = n - 2;
-    stored == header(mask, &octets[..m])
+    };
+    u16::from_be_bytes(*stored) == header(mask, front)
 }
 
 // The check of a block's data octets with the seven low bits of the serial. A block that carries it is found good.
@@ -87,18 +79,11 @@ pub fn block(serial: u8, octets: &[u8]) -> u16
 pub fn block_good(octets: &[u8]) -> bool
     ensures { result ≡ block_good octets.now }
 {
-    if octets.len() < 2 {
+    let Some((first, data)) = octets.split_first_chunk::<2>() else {
         return false;
-    }
-    let first = octets[0];
-    let stored = joined(first % 2, octets[1]);
-    stored == block(first / 2, &octets[2..])
-}
-
-fn joined(high: u8, low: u8) -> u16
-    ensures { result ≡ high * 256 + low }
-{
-    (high as u16) * 256 + low as u16
+    };
+    let [serial, low] = *first;
+    u16::from_be_bytes([serial % 2, low]) == block(serial / 2, data)
 }
 
 // The check of the pairs before the whole words: of none, or of one.
@@ -109,7 +94,7 @@ fn first_pair(table: &[u32], octets: &[u8]) -> u32
     if octets.len() / 2 % 2 == 0 {
         return 0;
     }
-    folds::message::times_word(table, joined(octets[1], octets[0]) as u32)
+    folds::message::times_word(table, u32::from_be_bytes([0, 0, octets[1], octets[0]]))
 }
 
 // The check of all pairs.
@@ -119,13 +104,10 @@ fn message_pairs(octets: &[u8]) -> u32
     let table = folds::message::table();
     let even = octets.len() / 2 * 2;
     let mut r = first_pair(&table, octets);
-    let mut i = even % 4;
-    while i < even {
-        r = folds::message::times_word(
-            &table,
-            r ^ four(octets[i + 2], octets[i + 3], octets[i], octets[i + 1]),
-        );
-        i += 4;
+    let (_, words) = octets[..even].as_rchunks::<4>();
+    for word in words {
+        let [a, b, c, d] = *word;
+        r = folds::message::times_word(&table, r ^ u32::from_be_bytes([b, a, d, c]));
     }
     r
 }
@@ -134,43 +116,26 @@ fn message_pairs(octets: &[u8]) -> u32
 pub fn message(octets: &[u8]) -> u32
     ensures { result ≡ message_check octets.now }
 {
-    let n = octets.len();
     let r = message_pairs(octets);
-    if n % 2 == 0 {
+    if octets.len() % 2 == 0 {
         return r;
     }
-    polynomials::take_octet(MESSAGE, r, octets[n - 1])
+    polynomials::take_octet(MESSAGE, r, octets[octets.len() - 1])
 }
 
 // The four octets of the message's check, the lowest first. Octets that carry them are found good.
 pub fn message_octets(octets: &[u8]) -> [u8; 4]
     ensures { (result ≡ lowest_first (message_check octets.now)) × MessageCarries octets.now result }
 {
-    let c = message(octets);
-    [
-        (c % 256) as u8,
-        (c / 256 % 256) as u8,
-        (c / 65536 % 256) as u8,
-        (c / 16777216 % 256) as u8,
-    ]
-}
-
-// The number of four octets, the lowest first.
-fn four(a: u8, b: u8, c: u8, d: u8) -> u32
-    ensures { result ≡ a + 256 * b + 65536 * c + 16777216 * d }
-{
-    (a as u32) + 256 * (b as u32) + 65536 * (c as u32) + 16777216 * (d as u32)
+    message(octets).to_le_bytes()
 }
 
 // Whether the last four octets are the message's check of those before.
 pub fn message_good(octets: &[u8]) -> bool
     ensures { result ≡ message_good octets.now }
 {
-    let n = octets.len();
-    if n < 4 {
+    let Some((front, stored)) = octets.split_last_chunk::<4>() else {
         return false;
-    }
-    let stored = four(octets[n - 4], octets[n - 3], octets[n - 2], octets[n - 1]);
-    let m = n - 4;
-    stored == message(&octets[..m])
+    };
+    u32::from_le_bytes(*stored) == message(front)
 }

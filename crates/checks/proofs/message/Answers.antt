@@ -13,9 +13,9 @@ use Rattle.checks.specs.Parts.{message_so_far}
 use Rattle.checks.proofs.MessageChecks.{so_far_last}
 use Rattle.checks.proofs.message.Goals as goal
 
-pub returns-then-n-eq0 : goal.returns-then-n-eq0
+pub returns-then-octets-eq0 : goal.returns-then-octets-eq0
 unfolding message_check message_so_far
-returns-then-n-eq0 c =
+returns-then-octets-eq0 c =
     let os = c.args.octets.now in
     let all : length os / 2 * 2 ≡ length os = omega arith in
     c.message_pairs-r.ensures ∙ ap (message_so_far os) all

@@ -1,6 +1,6 @@
 -- `checks::message_octets` meets its contract.
 -- Assumes nothing.
-use mathlib.Core.Path.{sym, ap, subst}
+use mathlib.Core.Path.{sym, ap, subst, ◌∙◌}
 use mathlib.Core.List.{List}
 use Prim.Native.Nat.{ℕ}
 use Rattle.checks.specs.Checks.{lowest_first}
@@ -12,5 +12,5 @@ pub returns : goal.returns
 unfolding lowest_first
 returns c =
     let os = c.args.octets.now in
-    let is = ap lowest_first c.message-c.ensures in
+    let is = c.to_le_bytes.ensures ∙ ap lowest_first c.message.ensures in
     (is, subst (λ (x : List ℕ). MessageCarries os x) (sym is) (claims.message os))
