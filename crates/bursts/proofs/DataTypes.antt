@@ -1,13 +1,12 @@
 -- Which data types are known: 6, a header, and 7, a block.
 -- Assumes nothing.
-use mathlib.Core.Path.{◌≡◌, refl, sym, ap, ◌∙◌}
+use mathlib.Core.Path.{◌≡◌, refl}
 use mathlib.Core.Bool.{Bool, true, false, cond}
 use Prim.Native.Nat.{ℕ, ◌<◌}
 use native.Mathlib.Omega.{arith}
 use lib.Dec.{eqb}
 use borrow.Author.Tests.{eqb-true, eq-eqb, ne_eqb}
 use Rattle.bursts.specs.Bursts.{kind_of, known}
-use Rattle.bursts.specs.declared.burst.Kind.{Kind}
 use Rattle.bursts.specs.declared.burst.Kind.TheVariants.{Header, Block, Other}
 
 module _ (t : ℕ) where

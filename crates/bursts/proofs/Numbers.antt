@@ -13,7 +13,7 @@ use borrow.Author.Tests.{eq-eqb, ne_eqb, eqb-true, lt-ltb, le-ltb}
 use Rattle.foundation.specs.Bits.{octet_bit}
 use Rattle.foundation.proofs.Runs.{followed_bits, value_lt, octet_bit_bits}
 use Rattle.foundation.specs.Order.{first_failed}
-use Rattle.foundation.specs.Refusals.{refusal, outcome}
+use Rattle.foundation.specs.Refusals.{outcome}
 use Rattle.foundation.specs.declared.refusal.Refusal.{Refusal}
 use Rattle.foundation.proofs.Refusals.{ok_zero, ok_same, err_any}
 use Rattle.std.specs.Prelude.{Result, Ok, Err}

@@ -1,8 +1,8 @@
 -- What is written reads back: slot type and block field of a burst are those it was written with. So does a burst with wrong bits in both
 -- that the codes put right.
 -- Assumes nothing.
-use mathlib.Core.Path.{◌≡◌, refl, sym, ap, ap₂, subst, ◌∙◌}
-use mathlib.Core.Bool.{Bool, true, false}
+use mathlib.Core.Path.{◌≡◌, sym, ap, ap₂, subst, ◌∙◌}
+use mathlib.Core.Bool.{true}
 use mathlib.Core.List.{List}
 use Prim.Native.Nat.{ℕ, ◌+◌, ◌*◌, ◌-◌, ◌/◌, ◌%◌, ◌^◌, ◌≤◌, ◌<◌}
 use native.Mathlib.Decide.{dec_lt}
@@ -18,7 +18,7 @@ use Rattle.codes.specs.Field.{plain_at, information, product, plain, sent_bits, 
 use Rattle.codes.proofs.SlotWords.{slot_word-lt}
 use Rattle.codes.proofs.FieldReading.{information_bits, plain_bits, corrects-field, field_back}
 use Rattle.codes.proofs.Product.{product_bits}
-use Rattle.bursts.specs.Bursts.{BurstRead, kind_of, known, slot_bits, field_of, read_burst, sync_word, burst_bits, written_burst, write_burst}
+use Rattle.bursts.specs.Bursts.{BurstRead, kind_of, known, slot_bits, field_of, read_burst, sync_word, burst_bits, written_burst}
 use Rattle.bursts.specs.BurstClaims.{BurstComesBack}
 use Rattle.bursts.specs.Parts.{field_run}
 use Rattle.bursts.specs.declared.burst.Sync.{Sync}
@@ -26,7 +26,7 @@ use Rattle.foundation.proofs.RunParts.{value_octets, octet_bit_past, length-octe
 use Rattle.bursts.proofs.DataTypes.{known-lt}
 use Rattle.bursts.proofs.Reading.{slot_halves, field-behind}
 use Rattle.bursts.proofs.Writing.{burst_bits_lem, in_field, in_slot, in_slot_end, in_field_end}
-use Rattle.bursts.proofs.Numbers.{field-read, near_slot, contents_read, write_wide, write_other, write_good}
+use Rattle.bursts.proofs.Numbers.{field-read, near_slot, contents_read}
 
 pub field-length : (b : List ℕ) → length (field_of b) ≡ 25
 unfolding field_of

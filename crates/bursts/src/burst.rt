@@ -146,25 +146,15 @@ fn burst_octet(f: &[u8], slot: u64, sync: u64, j: usize) -> u8
     requires { (length f.now ≡ 25) × (j < 33) }
     ensures { result ≡ value_of (burst_bits f.now slot sync) (8 * j) 8 }
 {
-    if j < 12 {
-        return f[j];
+    match j {
+        0..=11 => f[j],
+        12 => f[12] / 64 * 64 + low((slot >> 14) % 64),
+        13 => low((slot >> 10) % 16 * 16 + (sync >> 44) % 16),
+        14..=18 => low(sync >> (148 - 8 * j)),
+        19 => low(sync % 16 * 16 + (slot >> 6) % 16),
+        20 => low(slot % 64 * 4) + f[12] / 16 % 4,
+        _ => f[j - 9] % 16 * 16 + f[j - 8] / 16,
     }
-    if j == 12 {
-        return f[12] / 64 * 64 + low((slot >> 14) % 64);
-    }
-    if j == 13 {
-        return low((slot >> 10) % 16 * 16 + (sync >> 44) % 16);
-    }
-    if j < 19 {
-        return low(sync >> (148 - 8 * j));
-    }
-    if j == 19 {
-        return low(sync % 16 * 16 + (slot >> 6) % 16);
-    }
-    if j == 20 {
-        return low(slot % 64 * 4) + f[12] / 16 % 4;
-    }
-    f[j - 9] % 16 * 16 + f[j - 8] / 16
 }
 
 // The 33 octets of a burst with this block field, slot type and sync.
@@ -173,6 +163,7 @@ fn burst_octets(f: &[u8], slot: u64, sync: u64) -> [u8; 33]
     ensures { result ≡ octets 33 (burst_bits f.now slot sync) }
 {
     let mut b = [0u8; 33];
+    // By number: array::from_fn was tried, and the proof that its closure keeps what it holds didn't close.
     for j in 0..33 {
         b[j] = burst_octet(f, slot, sync, j);
     }

@@ -25,12 +25,12 @@ fn column_remainders(m: [u16; 13]) -> Nibbles
     let mut b: u16 = 0;
     let mut c: u16 = 0;
     let mut d: u16 = 0;
-    for r in 0..13 {
+    for w in m {
         let t = d;
         d = c;
         c = b;
         b = a ^ t;
-        a = m[r] ^ t;
+        a = w ^ t;
     }
     Nibbles { a, b, c, d }
 }
@@ -46,9 +46,9 @@ fn correct_columns(m: [u16; 13]) -> [u16; 13]
     let mut c = s.d ^ s.c;
     let mut d = s.a ^ s.d;
     let mut out = m;
-    for r in 0..13 {
+    for w in &mut out {
         let others = b | c | d;
-        out[r] = out[r] ^ ((a | others) ^ others);
+        *w ^= (a | others) ^ others;
         let t = d;
         d = c;
         c = b;
@@ -117,6 +117,7 @@ fn correct_rows(m: [u16; 13]) -> [u16; 13]
         return m;
     }
     let mut out = m;
+    // By number, since a row's number also says where its remainder stands.
     for r in 0..13 {
         out[r] = correct_row(out[r], (s[r / 4] >> (16 * (r % 4))) % 16);
     }
@@ -233,6 +234,7 @@ fn data_rows(info: [u8; 12]) -> [u16; 13]
     ensures { result ≡ tabulate 13 (data_rows info) }
 {
     let mut m = [0u16; 13];
+    // By number, since a row's number says where its bits begin.
     for r in 0..9 {
         m[r] = coded_row(data_row(info, r));
     }

@@ -1,6 +1,6 @@
 -- What the writer of datagrams answers, by the widths of the labels and by what the writer of bursts answers.
 -- Assumes nothing.
-use Rattle.std.proofs.Common.{◌≡◌, ℕ, ◌^◌, ◌<◌, ◌≤◌, Bool, true, false, ◌&&◌, cond, eqb, ltb, List, ◌++◌, replicate, sym, refl, ap, ◌∙◌, arith, ltb-true, le-ltb, lt-ltb, ne_eqb}
+use Rattle.std.proofs.Common.{◌≡◌, ℕ, ◌^◌, ◌<◌, Bool, true, false, ◌&&◌, cond, eqb, ltb, List, ◌++◌, replicate, sym, refl, ap, ◌∙◌, arith, ltb-true}
 use Rattle.std.specs.Prelude.{Ok, Err}
 use Rattle.foundation.specs.Order.{first_failed}
 use Rattle.foundation.specs.Refusals.{outcome}

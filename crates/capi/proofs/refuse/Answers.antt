@@ -1,7 +1,6 @@
 -- `capi::refuse` meets its contract.
 -- Assumes nothing.
-use mathlib.Core.Path.{sym, subst, ◌∙◌}
-use mathlib.Core.List.{List}
+use mathlib.Core.Path.{sym, subst}
 use Prim.Native.Nat.{ℕ}
 use Rattle.foundation.specs.Refusals.{refusal_number}
 use Rattle.layouts.specs.Lent.{Gives}

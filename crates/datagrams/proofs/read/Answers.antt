@@ -1,7 +1,6 @@
 -- `datagrams::read` meets its contract.
 -- Assumes nothing.
-use Rattle.std.proofs.Common.{◌≡◌, ℕ, ◌/◌, ◌%◌, List, true, false, sym, ap, ◌∙◌, arith}
-use Rattle.std.specs.Prelude.{Ok}
+use Rattle.std.proofs.Common.{ℕ, List, true, false, sym, ap, ◌∙◌, arith}
 use Rattle.std.proofs.lemmas.Result.{err_from_is_err_and}
 use Rattle.foundation.specs.Refusals.{refusal, outcome}
 use Rattle.codes.specs.SlotWord.{slot_given}
@@ -10,7 +9,6 @@ use Rattle.codes.proofs.SlotReading.{given_data}
 use Rattle.bursts.specs.Bursts.{burst_slot, burst_field}
 use Rattle.bursts.proofs.Variants.{known_by}
 use Rattle.datagrams.specs.Datagrams.{burst_of, refused_datagram, datagram_given}
-use Rattle.datagrams.specs.declared.Labels.{Labels}
 use Rattle.datagrams.proofs.DatagramNumbers.{Slotted, Kinded, burst-part, number_size, number-prefix, number-frame, number_differs, number_other, read-refused, slot_refused, field_refused, field_good}
 use Rattle.datagrams.proofs.read.Goals.{then-datatype-slot-via-then-datatype-slot, then-datatype-slot-via-else-datatype-slot+then-eq}
 use Rattle.datagrams.proofs.read.Goals as goal

@@ -5,37 +5,37 @@ use native.Mathlib.Omega.{arith}
 use Rattle.bursts.proofs.Writing.{octet_field, octet_12, octet_13, octet_sync, octet_19, octet_20, octet_field_end}
 use Rattle.bursts.proofs.burst.burst_octet.Goals as goal
 
-pub returns-then-j-lt12 : goal.returns-then-j-lt12
-returns-then-j-lt12 c =
+pub returns-in-0-to-11 : goal.returns-in-0-to-11
+returns-in-0-to-11 c =
     let a = c.args in
-    octet_field a.f.now a.slot a.sync a.j c.if-j-lt12.true (omega (arith, c.type_inv.f a.j))
+    octet_field a.f.now a.slot a.sync a.j (omega arith) (omega (arith, c.type_inv.f a.j))
 
-pub returns-then-j-eq12 : goal.returns-then-j-eq12
-returns-then-j-eq12 c =
+pub returns-in-12 : goal.returns-in-12
+returns-in-12 c =
     let a = c.args in
-    omega (arith, octet_12 a.f.now a.slot a.sync a.j c.if-j-eq12.true, c.type_inv.f 12)
+    omega (arith, octet_12 a.f.now a.slot a.sync a.j c.in-12.is, c.type_inv.f 12)
 
-pub returns-then-j-eq13 : goal.returns-then-j-eq13
-returns-then-j-eq13 c =
+pub returns-in-13 : goal.returns-in-13
+returns-in-13 c =
     let a = c.args in
-    omega (arith, octet_13 a.f.now a.slot a.sync a.j c.if-j-eq13.true)
+    omega (arith, octet_13 a.f.now a.slot a.sync a.j c.in-13.is)
 
-pub returns-then-j-lt19 : goal.returns-then-j-lt19
-returns-then-j-lt19 c =
+pub returns-in-14-to-18 : goal.returns-in-14-to-18
+returns-in-14-to-18 c =
     let a = c.args in
-    omega (arith, octet_sync a.f.now a.slot a.sync a.j (omega arith) c.if-j-lt19.true)
+    omega (arith, octet_sync a.f.now a.slot a.sync a.j (omega arith) (omega arith))
 
-pub returns-then-j-eq19 : goal.returns-then-j-eq19
-returns-then-j-eq19 c =
+pub returns-in-19 : goal.returns-in-19
+returns-in-19 c =
     let a = c.args in
-    omega (arith, octet_19 a.f.now a.slot a.sync a.j c.if-j-eq19.true)
+    omega (arith, octet_19 a.f.now a.slot a.sync a.j c.in-19.is)
 
-pub returns-then-j-eq20 : goal.returns-then-j-eq20
-returns-then-j-eq20 c =
+pub returns-in-20 : goal.returns-in-20
+returns-in-20 c =
     let a = c.args in
-    omega (arith, octet_20 a.f.now a.slot a.sync a.j c.if-j-eq20.true)
+    omega (arith, octet_20 a.f.now a.slot a.sync a.j c.in-20.is)
 
-pub returns : goal.returns
-returns c =
+pub returns-in_default : goal.returns-in_default
+returns-in_default c =
     let a = c.args in
     omega (arith, octet_field_end a.f.now a.slot a.sync a.j (omega arith), c.type_inv.f (a.j - 8))

@@ -1,15 +1,13 @@
 -- `bursts::burst::write` meets its contract: what the writer answers, and that it comes back.
 -- Assumes nothing.
-use mathlib.Core.Path.{◌≡◌, sym, ap, subst, ◌∙◌}
-use mathlib.Core.Bool.{Bool, false, true}
+use mathlib.Core.Path.{sym, ap, subst, ◌∙◌}
+use mathlib.Core.Bool.{false, true}
 use mathlib.Core.List.{List}
-use Prim.Native.Nat.{ℕ, ◌<◌}
-use native.Mathlib.Decide.{dec_lt}
-use native.Mathlib.Omega.{arith}
+use Prim.Native.Nat.{ℕ}
 use mir.Syntax.{w8}
 use borrow.Author.Rules.{rules, elem_Fits}
 use Rattle.foundation.specs.Refusals.{refusal, outcome}
-use Rattle.bursts.specs.Bursts.{BurstOctets, kind_of, known, burst_octets_given}
+use Rattle.bursts.specs.Bursts.{BurstOctets, burst_octets_given}
 use Rattle.bursts.specs.BurstClaims.{BurstComesBack}
 use Rattle.bursts.proofs.Variants.{known_by}
 use Rattle.bursts.proofs.DataTypes.{known-lt}

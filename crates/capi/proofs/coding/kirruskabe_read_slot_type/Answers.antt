@@ -1,7 +1,7 @@
 -- `capi::coding::kirruskabe_read_slot_type` meets its contract.
 -- Assumes nothing.
-use mathlib.Core.Path.{refl, sym, ap, ap₂, ◌∙◌}
-use mathlib.Core.List.{List, [], ◌∷◌}
+use mathlib.Core.Path.{refl, sym, ap₂, ◌∙◌}
+use mathlib.Core.List.{[], ◌∷◌}
 use Prim.Native.Nat.{ℕ}
 use Rattle.foundation.proofs.Refusals.{ok_zero, ok_same}
 use Rattle.codes.specs.SlotWord.{read_slot_type, slot_number, slot_data, slot_given}

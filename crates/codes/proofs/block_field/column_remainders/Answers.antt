@@ -1,15 +1,21 @@
--- `codes::block_field::column_remainders` meets its contract: the four words hold the remainders of the first r bits of every column.
+-- `codes::block_field::column_remainders` meets its contract: the four words hold the remainders of the first bits of every column.
 -- Assumes nothing.
+use mathlib.Core.Path.{subst}
+use Prim.Native.Nat.{ℕ}
 use native.Mathlib.Omega.{arith}
-use borrow.Author.Rules.{rules}
-use Rattle.codes.proofs.Slices.{sliced_none, sliced_more}
+use Rattle.codes.specs.Words.{Sliced}
+use Rattle.codes.proofs.Slices.{remainders, sliced_none, sliced_more}
 use Rattle.codes.proofs.block_field.column_remainders.Goals as goal
 
-pub loop-r-init : goal.loop-r-init
-loop-r-init c = (search rules, sliced_none c.args.m)
+pub loop-w-init : goal.loop-w-init
+loop-w-init c = sliced_none c.args.m
 
-pub loop-r-preserved : goal.loop-r-preserved
-loop-r-preserved c =
-    let l = c.loop-r in
-    let m = c.args.m in
-    (omega arith, sliced_more m l.r l.a l.b l.c l.d l.invariant.1)
+pub loop-w-preserved : goal.loop-w-preserved
+loop-w-preserved c =
+    let l = c.loop-w in
+    sliced_more c.args.m l.w-index l.a l.b l.c l.d l.invariant
+
+pub returns : goal.returns
+returns c =
+    let l = c.loop-w in
+    subst (λ (n : ℕ). Sliced (remainders c.args.m n) l.a l.b l.c l.d) (omega arith) l.invariant

@@ -5,7 +5,7 @@ use mathlib.Core.List.{List}
 use Prim.Native.Nat.{ℕ}
 use native.Mathlib.Omega.{arith}
 use Rattle.foundation.specs.Refusals.{refusal, outcome}
-use Rattle.codes.specs.Field.{BlockField, read_field, field_given}
+use Rattle.codes.specs.Field.{read_field, field_given}
 use Rattle.codes.specs.Words.{cell, matrix_read, Codewords, ColumnsRight}
 use Rattle.codes.proofs.FieldWords.{field_rows, rows_same, cell-read, cell_clean, rows-good, matrix_read_lem, columns-bad, refused-read, read-size}
 use Rattle.codes.proofs.block_field.read.Goals as goal

@@ -1,5 +1,6 @@
 -- `Kind::from` meets its contract.
 -- Assumes nothing.
+use native.Mathlib.Omega.{arith}
 use Rattle.bursts.proofs.DataTypes.{kind-header, kind-block, kind_other}
 use Rattle.bursts.proofs.burst.KindFromU8.from.Goals as goal
 
@@ -10,4 +11,4 @@ pub returns-in-7 : goal.returns-in-7
 returns-in-7 c = kind-block c.args.datatype c.in-7.is
 
 pub returns-in_default : goal.returns-in_default
-returns-in_default c = kind_other c.args.datatype c.in_default.in_default-own.rest.0.1 c.in_default.in_default-own.rest.1
+returns-in_default c = kind_other c.args.datatype (λ e. omega arith) (λ e. omega arith)
