@@ -44,7 +44,7 @@ module _ {S : Type 0} (text : S → List ℕ → List ℕ) (first : S) (from to 
   between_start = (underway_start text first, Consumes-nil from, Appends-nil to, λ e. never e refl)
 
   -- octets are answered
-  pub between_answered : (octets letters : ℕ) (ended : Bool) (now : S) (rest : List ℕ) (from' to' to'' : Option (List ℕ))
+  between_answered : (octets letters : ℕ) (ended : Bool) (now : S) (rest : List ℕ) (from' to' to'' : Option (List ℕ))
       → Between text first octets letters ended now rest from from' to to' → (t : Turn) (now' : S) (rest' : List ℕ)
       → PrintsTurn text now rest ended t now' rest' to' to'' → (letters' : ℕ) → letters' ≡ (letters + t.letters) % 2 ^ 64
       → Between text first octets letters' ended now' rest' from from' to to''
@@ -55,6 +55,35 @@ module _ {S : Type 0} (text : S → List ℕ → List ℕ) (first : S) (from to 
     Appends-trans to to' to'' b.0.written a.0.line b.2 a.1,
     b.3,
   )
+
+  -- a turn over the first octets of the input: what is left in front, and of what is left where it is no less
+  pub record Turned (octets letters : ℕ) (ended : Bool) (now : S) (rest : List ℕ) (from' to' : Option (List ℕ)) (size kept : ℕ) : Type 0 where
+    pub between : Between text first octets letters ended now rest from from' to to'
+    pub fewer : kept ≤ size
+    pub all : size ≤ kept → kept ≡ size
+    pub none : ended ≡ true → size ≤ kept → kept ≡ 0
+    pub room : ended ≡ false → size ≤ kept → size < 65538
+
+  pub turned : (octets letters : ℕ) (ended : Bool) (now : S) (input : List ℕ) (size : ℕ) (from' to' to'' : Option (List ℕ))
+      → Between text first octets letters ended now (take size input) from from' to to' → size ≤ length input → (t : Turn) (now' : S) (rest' : List ℕ)
+      → PrintsTurn text now (take size input) ended t now' rest' to' to''
+      → Turned octets ((letters + t.letters) % 2 ^ 64) ended now' rest' from' to'' size t.kept
+  turned octets letters ended now input size from' to' to'' b inside t now' rest' a = record {
+    between = between_answered octets letters ended now (take size input) from' to' to'' b t now' rest' a _ refl;
+    fewer = few;
+    all = all;
+    none = λ e h. omega (arith, long, all h, a.0.none_left e (omega (arith, long, all h)));
+    room = λ e h. omega (arith, long, a.2 e (omega (arith, long, all h)));
+  }
+    where
+      long : length (take size input) ≡ size
+      long = length-take-le size input inside
+
+      few : t.kept ≤ size
+      few = omega (arith, a.0.fewer, long)
+
+      all : size ≤ t.kept → t.kept ≡ size
+      all h = omega (arith, few)
 
   -- octets are read
   between_more : (octets letters : ℕ) (now : S) (rest : List ℕ) (from' from'' to' : Option (List ℕ))

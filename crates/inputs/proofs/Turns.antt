@@ -74,22 +74,6 @@ module _ (input : List ℕ) (size : ℕ) (read : ℕ) (input' : List ℕ) (b : R
   behind_rest =
       ap (λ (x : List ℕ). x ++ new) (sym b.kept ∙ sym (take-take size read input' b.behind)) ∙ take-append-drop size (take read input')
 
--- ---- what a turn keeps
-
-module _ {S : Type 0} (text : S → List ℕ → List ℕ) (now : S) (input : List ℕ) (size : ℕ) (ended : Bool) (letters kept : ℕ) (now' : S) (rest : List ℕ)
-    (a : Answers text now (take size input) ended letters kept now' rest) (inside : size ≤ length input) where
-  length-first : length (take size input) ≡ size
-  length-first = length-take-le size input inside
-
-  pub keeps_few : kept ≤ size
-  keeps_few = omega (arith, a.fewer, length-first)
-
-  pub keeps_all : size ≤ kept → kept ≡ size
-  keeps_all h = omega (arith, keeps_few)
-
-  pub keeps_none : ended ≡ true → size ≤ kept → kept ≡ 0
-  keeps_none e h = omega (arith, keeps_all h, length-first, a.none_left e (omega (arith, keeps_all h, length-first)))
-
 -- nothing is kept, and nothing follows: the text at the end
 pub underway_over : {S : Type 0} (text : S → List ℕ → List ℕ) (first : S) (octets letters : ℕ) (ended : Bool) (now : S) (input : List ℕ) (kept : ℕ)
     → Underway text first octets letters ended now (take kept input) → ended ≡ true → kept ≡ 0 → (letters' : ℕ)

@@ -45,6 +45,7 @@ pub fn fill<R: Read>(reader: &mut R, octets: &mut [u8]) -> Result<usize, Unread>
     ensures ended { IfOk result (λ n. n < length octets.new → IsAtEnd (R.remaining reader.new)) }
 {
     let mut size: usize = 0;
+    // A `for` would count turns that nothing bounds; the rest to be filled gets smaller.
     while size < octets.len() {
         let more = read_behind(reader, octets, size)?;
         if more == size {

@@ -24,8 +24,9 @@ pub struct Printed {
     pub end: usize,
 }
 
-// What comes after the octets that were answered: the text of all that does is known from it.
+// A state between the octets that were answered and those to come.
 pub trait Printer {
+    // The text of octets, from this state on to their end.
     ghost whole: { Self → List ℕ → List ℕ };
 
     // Answers octets, as many as there is room for, and writes their text in front. Where nothing follows them, those left over are answered too.

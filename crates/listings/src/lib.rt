@@ -17,8 +17,8 @@ use std::io::{Read, Write};
 const ADDRESS: usize = 3;
 
 // What is listed, and the gateway and its store after the datagrams that are answered.
-#[derive(Clone, Copy)]
-pub struct Lister {
+#[derive(Drop)]
+struct Lister {
     listing: Listing,
     gateway: Gateway,
     store: [u8; STORE],

@@ -17,7 +17,7 @@ use std::io::{Read, Write};
 const ADDRESS: usize = 3;
 
 // The receiver and its store after the records that are answered.
-#[derive(Clone, Copy)]
+#[derive(Drop)]
 struct Reporter {
     receiver: Receiver,
     store: [u8; STORE],

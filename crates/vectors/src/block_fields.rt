@@ -1,13 +1,13 @@
 // Block fields, written and read. Position i of the plain order is bit 181 i mod 196 of the field, the first bit highest in octet 0.
 // Row r, column c of the matrix is plain position 1 + 15 r + c.
-ghost use Rattle.std.specs.Prelude.{◌<◌, ◌≤◌};
+ghost use Rattle.std.specs.Prelude.{ℕ, ◌<◌, ◌≤◌};
 ghost use Rattle.report.specs.Counted.{MoreCases};
 
 use codes::block_field;
 use report::Report;
 use std::io::Write;
 
-// Positions in order: the first n of the octets.
+// Positions in order: the first n of the octets, since there is no heap for a list.
 #[derive(Drop)]
 struct Places {
     n: usize,
@@ -27,19 +27,27 @@ fn four_bits(field: [u8; 25], a: u8, b: u8, c: u8, d: u8) -> u32 {
     u32::from(high | low)
 }
 
-// The plain positions of the ones of a field.
-fn ones(field: [u8; 25]) -> Places
+// The positions of a field of which it holds.
+fn all_where<F: Fn(u8) -> bool>(holds: F) -> Places
+    requires { (p : ℕ) → p < 196 → F.pre holds p }
     ensures { result.n ≤ 196 }
 {
     let mut at = [0u8; 196];
     let mut n: usize = 0;
-    for i in 0..196 {
-        if plain_bit(field, i) == 1 {
-            at[n] = i;
+    for p in 0..196 {
+        if holds(p) {
+            at[n] = p;
             n += 1;
         }
     }
     Places { n, at }
+}
+
+// The plain positions of the ones of a field.
+fn ones(field: [u8; 25]) -> Places
+    ensures { result.n ≤ 196 }
+{
+    all_where(|i| plain_bit(field, i) == 1)
 }
 
 // The field with bit p changed.
@@ -62,16 +70,11 @@ fn number_of(field: &[u8]) -> u32 {
 fn deciding(field: [u8; 25]) -> Places
     ensures { result.n ≤ 196 }
 {
-    let mut at = [0u8; 196];
-    let mut n: usize = 0;
-    for p in 0..196 {
-        let other = changed(field, p);
-        if number_of(&other) == 7 {
-            at[n] = p;
-            n += 1;
-        }
-    }
-    Places { n, at }
+    all_where(
+        |p: u8| -> bool
+            requires { p < 196 }
+        { number_of(&changed(field, p)) == 7 },
+    )
 }
 
 // The case of the first n places.

@@ -36,7 +36,7 @@ fn read_back() -> u32 {
     let mut n: u32 = 0;
     for octet in 0..=255 {
         if reading(slot_type::write(octet)) == u32::from(octet) {
-            n = std::num::wrapping_add_u32(n, 1);
+            n += 1;
         }
     }
     n

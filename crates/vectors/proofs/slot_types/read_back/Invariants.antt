@@ -1,10 +1,7 @@
--- `read_back` ends: the measure is the number of octets left.
+-- `read_back` counts no more octets than it has looked at.
 -- Assumes nothing.
-use Rattle.std.proofs.Common.{◌-◌, ◌≤◌}
+use Rattle.std.proofs.Common.{◌≤◌}
 use Rattle.vectors.proofs.slot_types.read_back.Given as goal
 
 abbrev pub invariant-loop-octet : goal.invariant-loop-octet
-invariant-loop-octet l = l.octet ≤ 255
-
-abbrev pub decreases-loop-octet : goal.decreases-loop-octet
-decreases-loop-octet l = 255 - l.octet
+invariant-loop-octet l = l.n ≤ l.octet
