@@ -81,7 +81,8 @@ pub fn run<R: Read, W: Write>(
     printing::run(from, to, &mut lister)
 }
 
-// The same for an own address that is read too.
+// The same for an own address that is read too. The program replay has the like of both functions: what is shared is in `inputs`, and to pass
+// these few lines a closure for the start would be no shorter.
 pub fn list<R: Read, W: Write>(from: &mut R, to: &mut W, listing: Listing) -> Result<Ended, Failed>
     ensures { ListsAll listing result (R.remaining from.old) (W.contents to.old) (W.contents to.new) }
 {

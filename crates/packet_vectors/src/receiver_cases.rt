@@ -30,11 +30,7 @@ fn response() -> ResponseOctets {
 fn handed_on(a: Answer) -> u32 {
     match a {
         Answer::Message(n) => (n % 1000) as u32,
-        Answer::Refused(_) => 1000,
-        Answer::Opened => 1000,
-        Answer::Repeat => 1000,
-        Answer::Stored => 1000,
-        Answer::Bad => 1000,
+        _ => 1000,
     }
 }
 
@@ -53,10 +49,7 @@ fn looped(store: &mut [u8]) -> u32 {
 fn front<W: Write>(report: &mut Report<W>, subject: &str, text: &str, store: &[u8], expected: &[u8])
     ensures { MoreCases 1 report.old.tally report.new.tally }
 {
-    let n = expected.len();
-    if store.len() < n {
-        return report.octets(subject, text, store, expected);
-    }
+    let n = store.len().min(expected.len());
     report.octets(subject, text, &store[..n], expected);
 }
 

@@ -12,6 +12,13 @@ use std::io::Write;
 struct Places {
     n: usize,
     at: [u8; 196],
+    ghost fits: { n ≤ 196 },
+}
+
+impl Places {
+    fn octets(&self) -> &[u8] {
+        &self.at[..self.n]
+    }
 }
 
 // The bit at position i of the plain order.
@@ -30,7 +37,6 @@ fn four_bits(field: [u8; 25], a: u8, b: u8, c: u8, d: u8) -> u32 {
 // The positions of a field of which it holds.
 fn all_where<F: Fn(u8) -> bool>(holds: F) -> Places
     requires { (p : ℕ) → p < 196 → F.pre holds p }
-    ensures { result.n ≤ 196 }
 {
     let mut at = [0u8; 196];
     let mut n: usize = 0;
@@ -44,9 +50,7 @@ fn all_where<F: Fn(u8) -> bool>(holds: F) -> Places
 }
 
 // The plain positions of the ones of a field.
-fn ones(field: [u8; 25]) -> Places
-    ensures { result.n ≤ 196 }
-{
+fn ones(field: [u8; 25]) -> Places {
     all_where(|i| plain_bit(field, i) == 1)
 }
 
@@ -67,9 +71,7 @@ fn number_of(field: &[u8]) -> u32 {
 }
 
 // The bits of a field each of which, changed alone, makes it read as number 7.
-fn deciding(field: [u8; 25]) -> Places
-    ensures { result.n ≤ 196 }
-{
+fn deciding(field: [u8; 25]) -> Places {
     all_where(
         |p: u8| -> bool
             requires { p < 196 }
@@ -77,32 +79,14 @@ fn deciding(field: [u8; 25]) -> Places
     )
 }
 
-// The case of the first n places.
-fn first<W: Write>(
-    report: &mut Report<W>,
-    subject: &str,
-    text: &str,
-    n: usize,
-    at: [u8; 196],
-    expected: &[u8],
-)
-    requires { n ≤ 196 }
-    ensures { MoreCases 1 report.old.tally report.new.tally }
-{
-    report.positions(subject, text, &at[..n], expected);
-}
-
 fn sent_at<W: Write>(report: &mut Report<W>, text: &str, field: [u8; 25], expected: &[u8])
     ensures { MoreCases 1 report.old.tally report.new.tally }
 {
     let found = deciding(field);
-    let at = found.at;
-    first(
-        report,
+    report.positions(
         "sent positions of plain positions ",
         text,
-        found.n,
-        at,
+        found.octets(),
         expected,
     );
 }
@@ -155,7 +139,6 @@ fn last_bit<W: Write>(report: &mut Report<W>)
     ensures { MoreCases 2 report.old.tally report.new.tally }
 {
     let found = ones(block_field::write(*b"\0\0\0\0\0\0\0\0\0\0\0\x01"));
-    let at = found.at;
     let expected = [131u8, 134, 135, 176, 179, 180, 191, 194, 195];
     report.number(
         "number of ones, ",
@@ -164,12 +147,10 @@ fn last_bit<W: Write>(report: &mut Report<W>)
         found.n as u32,
         9,
     );
-    first(
-        report,
+    report.positions(
         "plain positions of the ones, ",
         "96 bits, only the last 1",
-        found.n,
-        at,
+        found.octets(),
         &expected,
     );
 }
