@@ -52,15 +52,13 @@ fn answer<W: Write>(
     requires { (length store.old ≡ store_size) × (size ≤ length input.old) × (line_room listing ≤ length text.old) }
     ensures { ListTurn listing g store.old input.old size last result store.new input.new }
 {
-    let listed = captures::list(listing, g, store, &input[..size], last, text);
-    let end = listed.end;
-    let written = put(to, &text[..end]);
+    let listed = captures::list(listing, g, store, &input[..size], last, text).unwrap();
+    let written = put(to, &text[..listed.end]);
     let kept = inputs::to_front(&mut input[..size], listed.taken);
-    let gateway = listed.gateway;
     Turn {
-        gateway,
+        gateway: listed.gateway,
         kept,
-        letters: end,
+        letters: listed.end,
         written,
     }
 }

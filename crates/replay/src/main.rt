@@ -50,15 +50,13 @@ fn answer<W: Write>(
     requires { (length store.old ≡ store_size) × (size ≤ length input.old) × (report_room ≤ length text.old) }
     ensures { ReplayTurn rx store.old input.old size last result store.new input.new }
 {
-    let replayed = replays::replay(rx, store, &input[..size], last, text);
-    let end = replayed.end;
-    let written = put(to, &text[..end]);
+    let replayed = replays::replay(rx, store, &input[..size], last, text).unwrap();
+    let written = put(to, &text[..replayed.end]);
     let kept = inputs::to_front(&mut input[..size], replayed.taken);
-    let receiver = replayed.receiver;
     Turn {
-        receiver,
+        receiver: replayed.receiver,
         kept,
-        letters: end,
+        letters: replayed.end,
         written,
     }
 }

@@ -1,23 +1,44 @@
 -- `replay::answer` meets its contract.
 -- Assumes nothing.
-use Rattle.std.proofs.Common.{take, ap, ◌∙◌, arith}
+use Rattle.std.proofs.Common.{take, refl, sym, subst, ◌∙◌, arith, length-take-le}
 use Rattle.logs.specs.Log.{state_of}
-use Rattle.replays.specs.declared.Replayed.{Replayed}
-use Rattle.replays.specs.Replay.{report_from}
-use Rattle.replays.proofs.Replays.{taken-number}
+use Rattle.replays.specs.Claims.{ReplayClaims}
+use Rattle.replays.specs.Replay.{ReplayAnswer, replayed, report_from}
+use Rattle.replays.proofs.Replays.{taken_ok, taken_as, ends_inside}
 use Rattle.inputs.proofs.Moving.{rest_first}
 use Rattle.inputs.proofs.Turns.{turn}
 use Rattle.replay.proofs.answer.Goals as goal
 
+pub unwrap-replayed-requires : goal.unwrap-replayed-requires
+unwrap-replayed-requires g c =
+    let a = c.args in
+    taken_ok a.rx a.store.now (take a.size a.input.now) a.last a.text.now c.requires.0 c.requires.2 _ c.replay.ensures.0
+
 pub returns : goal.returns
 returns g c =
     let a = c.args in
-    let l = c.replay-replayed in
+    let l = c.replay in
+    let r = c.unwrap-replayed.result in
     let f = c.to_front-kept in
     let p = c.requires in
-    let claims = l.ensures.3 in
     let os = take a.size a.input.now in
-    let number = ap (λ (x : Replayed). x.number) l.ensures.0 ∙ taken-number a.rx a.store.now os a.last a.text.now p.0 p.2 in
-    turn report_from (state_of a.rx a.store.now) _ os a.last _ l.result.end l.result.taken f.result _
-    (omega (arith, claims.ends, l.auto.text)) (claims.goes_on number) claims.takes (claims.takes_on number) f.ensures.0
-    (rest_first os l.result.taken f.result _ _ f.ensures.0 f.ensures.1)
+    let same = taken_as a.rx a.store.now os a.last a.text.now p.0 p.2 r (sym c.unwrap-replayed.ensures ∙ l.ensures.0) in
+    let claims : ReplayClaims (state_of a.rx a.store.now) os a.last a.text.now (record { number = 0; receiver = r.receiver; taken = r.taken; end = r.end }) l.new.store l.new.text =
+    subst (λ (x : ReplayAnswer). ReplayClaims (state_of a.rx a.store.now) os a.last a.text.now x l.new.store l.new.text) (sym same) l.ensures.3 in
+    turn report_from (state_of a.rx a.store.now) _ os a.last _ r.end r.taken f.result _
+    (omega (arith, claims.ends, l.auto.text)) (claims.goes_on refl) claims.takes (claims.takes_on refl) f.ensures.0
+    (rest_first os r.taken f.result _ _ f.ensures.0 f.ensures.1)
+
+pub slice_bounds-put-end : goal.slice_bounds-put-end
+slice_bounds-put-end g c =
+    let a = c.args in
+    let l = c.replay in
+    let few = ends_inside a.rx a.store.now (take a.size a.input.now) a.last a.text.now c.requires.0 c.requires.2 c.unwrap-replayed.result (sym c.unwrap-replayed.ensures ∙ l.ensures.0) _ _ l.ensures.3 in
+    omega (arith, few, l.auto.text)
+
+pub slice_bounds-put-end-2 : goal.slice_bounds-put-end-2
+slice_bounds-put-end-2 g c =
+    let a = c.args in
+    let l = c.replay in
+    let few = ends_inside a.rx a.store.now (take a.size a.input.now) a.last a.text.now c.requires.0 c.requires.2 c.unwrap-replayed.result (sym c.unwrap-replayed.ensures ∙ l.ensures.0) _ _ l.ensures.3 in
+    sym (length-take-le _ _ (omega (arith, few, l.auto.text)))
