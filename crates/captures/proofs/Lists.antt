@@ -1,6 +1,6 @@
 -- What `list` gives: a refusal, or the datagrams that it answers.
 -- Assumes nothing.
-use mathlib.Core.Path.{◌≡◌, refl, sym, ap, ap₂, ◌∙◌}
+use mathlib.Core.Path.{◌≡◌, refl, sym, ap, ap₂, subst, ◌∙◌}
 use mathlib.Core.Bool.{Bool, true, false, cond}
 use mathlib.Core.Logic.{◌≢◌}
 use mathlib.Core.List.{List, ◌++◌}
@@ -9,7 +9,13 @@ use native.Mathlib.Nat.{zero-add, mul-le-mul_left, le_trans}
 use native.Mathlib.Omega.{arith}
 use lib.ListN.{length, take, drop}
 use borrow.Author.Tests.{eq-eqb, ne_eqb, le-leb, lt-leb}
+use Rattle.std.specs.Prelude.{Result, Ok, Err}
+use Rattle.std.specs.Result.{IsOk}
 use Rattle.foundation.specs.Order.{first_failed}
+use Rattle.foundation.specs.Refusals.{outcome, refusal}
+use Rattle.foundation.specs.declared.refusal.Refusal.{Refusal}
+use Rattle.foundation.specs.declared.refusal.Refusal.TheVariants.{Size}
+use Rattle.foundation.proofs.Refusals.{ok_same}
 use Rattle.foundation.specs.Octets.{put}
 use Rattle.receiver_state.specs.Receiver.{store_size}
 use Rattle.counting.specs.Counts.{counts_of}
@@ -20,7 +26,7 @@ use Rattle.captures.specs.declared.Listed.{Listed}
 use Rattle.captures.specs.declared.Listing.{Listing}
 use Rattle.captures.specs.declared.Listing.TheVariants.{Numbers, Deliveries}
 use Rattle.captures.specs.Lines.{line_room}
-use Rattle.captures.specs.Captures.{datagram_size, cut, datagrams_in, whole_in, Running, running, answers_given, left_by_all, lines_of, printed, list_number, datagrams_answered, octets_of, list, store_after, text_after}
+use Rattle.captures.specs.Captures.{datagram_size, cut, datagrams_in, whole_in, Running, running, answers_given, left_by_all, lines_of, printed, list_number, datagrams_answered, octets_of, ListAnswer, listed_given, list, store_after, text_after}
 use Rattle.captures.specs.Claims.{ListClaims}
 use Rattle.captures.proofs.GoesOn.{goes_on, counts_go_on}
 use Rattle.captures.proofs.Rule.{by_rule}
@@ -64,26 +70,26 @@ module _ (l : Listing) (last : Bool) (size room k : ℕ) (e : k ≡ min (cond la
 
 module _ (l : Listing) (g : Gateway) (store os : List ℕ) (last : Bool) (text : List ℕ) where
   -- what `list` ensures
-  abbrev pub Lists : Listed → List ℕ → List ℕ → Type 0
+  abbrev pub Lists : Result Listed Refusal → List ℕ → List ℕ → Type 0
   Lists out store' text' =
-      (out ≡ list l g store os last text) × (store' ≡ store_after l g store os last text) × (text' ≡ text_after l g store os last text)
-      × ListClaims l (running g store) os last text out store' text'
+      (out ≡ listed_given (list l g store os last text)) × (store' ≡ store_after l g store os last text) × (text' ≡ text_after l g store os last text)
+      × ListClaims l (running g store) os last text (list l g store os last text) store' text'
 
   no_claims : ListClaims l (running g store) os last text (record { number = 1; gateway = g; taken = 0; end = 0 }) store text
   no_claims = record { goes_on = λ z. absurd (omega (arith, z)); counts_go_on = λ z. absurd (omega (arith, z)); by_rule = λ z. absurd (omega (arith, z)); ends = omega arith; takes = omega arith; takes_on = λ z. absurd (omega (arith, z)) }
 
-  refusal : list_number l store text ≡ 1 → Lists (record { number = 1; gateway = g; taken = 0; end = 0 }) store text
-  unfolding list store_after text_after
-  refusal e = rw e (refl, refl, refl, no_claims)
+  refuses : list_number l store text ≡ 1 → Lists (Err Size) store text
+  unfolding list listed_given store_after text_after outcome refusal
+  refuses e = rw e (refl, refl, refl, no_claims)
 
-  pub other_store : length store ≢ store_size → Lists (record { number = 1; gateway = g; taken = 0; end = 0 }) store text
+  pub other_store : length store ≢ store_size → Lists (Err Size) store text
   unfolding list_number first_failed
-  other_store h = refusal (rw (ne_eqb (length store) store_size h))
+  other_store h = refuses (rw (ne_eqb (length store) store_size h))
 
   module _ (room : length store ≡ store_size) where
-    pub no_line-room : length text < line_room l → Lists (record { number = 1; gateway = g; taken = 0; end = 0 }) store text
+    pub no_line-room : length text < line_room l → Lists (Err Size) store text
     unfolding list_number first_failed
-    no_line-room h = refusal (rw (eq-eqb (length store) store_size room, lt-leb (line_room l) (length text) h))
+    no_line-room h = refuses (rw (eq-eqb (length store) store_size room, lt-leb (line_room l) (length text) h))
 
     module _ (line : line_room l ≤ length text) where
       taken_on : list_number l store text ≡ 0
@@ -94,10 +100,27 @@ module _ (l : Listing) (g : Gateway) (store os : List ℕ) (last : Bool) (text :
       unfolding list
       taken-number = rw taken_on
 
+      -- it is taken, and what is given tells what `list` does
+      pub taken_ok : (r : Result Listed Refusal) → r ≡ listed_given (list l g store os last text) → IsOk r
+      unfolding listed_given outcome
+      taken_ok r e = rw (e, taken-number)
+
+      pub taken_as : (r : Listed) → Ok r ≡ listed_given (list l g store os last text)
+          → ◌≡◌ {A = ListAnswer} (record { number = 0; gateway = r.gateway; taken = r.taken; end = r.end }) (list l g store os last text)
+      unfolding listed_given
+      taken_as r e =
+          let x = list l g store os last text in
+          let same : r ≡ record { gateway = x.gateway; taken = x.taken; end = x.end } = sym (ok_same x.number _ r (sym e)) in
+          λ i. record { number = sym taken-number i; gateway = (same i).gateway; taken = (same i).taken; end = (same i).end }
+
+      pub ends_inside : (r : Listed) → Ok r ≡ listed_given (list l g store os last text) → (store' text' : List ℕ)
+          → ListClaims l (running g store) os last text (list l g store os last text) store' text' → r.end ≤ length text
+      ends_inside r e store' text' c = omega (arith, c.ends, ap (λ (x : ListAnswer). x.end) (taken_as r e))
+
       module _ (k : ℕ) (ek : k ≡ datagrams_answered l last os text) (g' : Gateway) (store' : List ℕ) (end : ℕ) (text' : List ℕ) (taken : ℕ)
           (left : running g' store' ≡ left_by_all (running g store) (cut k os)) (wrote : Wrote (lines_of l (running g store) (cut k os)) text 0 end text')
           (few : end ≤ line_room l * k) (et : taken ≡ octets_of k os) where
-        abbrev given : Listed
+        abbrev given : ListAnswer
         given = record { number = 0; gateway = g'; taken = taken; end = end }
 
         fits : k ≡ min (cond last (datagrams_in (length os)) (whole_in (length os))) (length text / line_room l)
@@ -124,16 +147,20 @@ module _ (l : Listing) (g : Gateway) (store os : List ℕ) (last : Bool) (text :
           takes_on = λ z t e. unfold octets_of in some_taken l last (length os) (length text) k fits t line taken et e;
         }
 
-        pub lists : Lists given store' text'
-        unfolding list store_after text_after
-        lists =
+        given_is : given ≡ list l g store os last text
+        unfolding list
+        given_is =
             let gateway : g' ≡ (left_by_all (running g store) (cut (datagrams_answered l last os text) os)).gateway =
             ap (λ (s : Running). s.gateway) left ∙ ap (λ (n : ℕ). (left_by_all (running g store) (cut n os)).gateway) ek in
             let ended : end ≡ length (lines_of l (running g store) (cut (datagrams_answered l last os text) os)) =
             wrote.0 ∙ zero-add _ ∙ ap (λ (n : ℕ). length (lines_of l (running g store) (cut n os))) ek in
-            rw taken_on (
-              λ i. record { number = 0; gateway = gateway i; taken = (et ∙ ap (λ (n : ℕ). octets_of n os) ek) i; end = ended i },
-              ap (λ (s : Running). s.store) left ∙ ap (λ (n : ℕ). (left_by_all (running g store) (cut n os)).store) ek,
-              wrote.1 ∙ ap (λ (n : ℕ). put text 0 (lines_of l (running g store) (cut n os))) ek,
-              the_claims,
-            )
+            rw taken_on (λ i. record { number = 0; gateway = gateway i; taken = (et ∙ ap (λ (n : ℕ). octets_of n os) ek) i; end = ended i })
+
+        pub lists : Lists (Ok (record { gateway = g'; taken = taken; end = end })) store' text'
+        unfolding listed_given store_after text_after outcome
+        lists = (
+          ap listed_given given_is,
+          rw taken_on (ap (λ (s : Running). s.store) left ∙ ap (λ (n : ℕ). (left_by_all (running g store) (cut n os)).store) ek),
+          rw taken_on (wrote.1 ∙ ap (λ (n : ℕ). put text 0 (lines_of l (running g store) (cut n os))) ek),
+          subst (λ (r : ListAnswer). ListClaims l (running g store) os last text r store' text') given_is the_claims,
+        )

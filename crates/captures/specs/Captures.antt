@@ -1,8 +1,10 @@
 -- A capture: own address (3 octets), then datagrams of 53 octets. What a gateway answers to a part of it.
 -- Assumes nothing.
-use Rattle.std.specs.Prelude.{Bool, cond, List, [], ◌∷◌, ◌++◌, ℕ, zero, suc, ◌+◌, ◌*◌, ◌-◌, ◌/◌, min, eqb, leb, length, take, drop}
+use Rattle.std.specs.Prelude.{Result, Bool, cond, List, [], ◌∷◌, ◌++◌, ℕ, zero, suc, ◌+◌, ◌*◌, ◌-◌, ◌/◌, min, eqb, leb, length, take, drop}
 use Rattle.addresses.specs.Octets.{address_at}
 use Rattle.foundation.specs.Order.{first_failed}
+use Rattle.foundation.specs.Refusals.{outcome}
+use Rattle.foundation.specs.declared.refusal.Refusal.{Refusal}
 use Rattle.foundation.specs.Octets.{put}
 use Rattle.receiver_state.specs.Receiver.{store_size, fresh_for}
 use Rattle.reception.specs.Reception.{said, on_datagram}
@@ -98,8 +100,18 @@ datagrams_answered l last os text = min (cond last (datagrams_in (length os)) (w
 unfoldable pub octets_of : ℕ → List ℕ → ℕ
 octets_of k os = min (datagram_size * k) (length os)
 
+-- number 0, the gateway after the datagrams, the octets that they took, and where the text ends; or the number of the refusal
+pub record ListAnswer : Type 0 where
+  pub number : ℕ
+  pub gateway : Gateway
+  pub taken : ℕ
+  pub end : ℕ
+
+unfoldable pub listed_given : ListAnswer → Result Listed Refusal
+listed_given r = outcome r.number (record { gateway = r.gateway; taken = r.taken; end = r.end })
+
 -- the gateway, the store and the text after it; a refusal changes nothing
-unfoldable pub list : Listing → Gateway → List ℕ → List ℕ → Bool → List ℕ → Listed
+unfoldable pub list : Listing → Gateway → List ℕ → List ℕ → Bool → List ℕ → ListAnswer
 list l g store os last text =
     let s = running g store in
     let ds = cut (datagrams_answered l last os text) os in

@@ -10,11 +10,12 @@ ghost use Rattle.texts.specs.Texts.{end_at};
 ghost use Rattle.texts.specs.Parts.{Wrote, AtMost};
 ghost use Rattle.captures.specs.Lines.{number_line, end_line, source_part, size_part, message_line, bad_line, delivery_line, closing, line_room};
 ghost use Rattle.captures.specs.Parts.{listed_line};
-ghost use Rattle.captures.specs.Captures.{datagrams_in, whole_in, running, started, left_by, outcome_of, cut, left_by_all, lines_of, store_after, text_after};
+ghost use Rattle.captures.specs.Captures.{datagrams_in, whole_in, running, started, left_by, outcome_of, cut, left_by_all, lines_of, listed_given, store_after, text_after};
 ghost use Rattle.captures.specs.Captures.{list as Captures·list};
 ghost use Rattle.captures.specs.Claims.{ListClaims};
 
 use counting::Counts;
+use foundation::refusal::Refusal;
 use receiver::event;
 use receiver_state::{Receiver, STORE};
 use reception::Answer;
@@ -26,7 +27,7 @@ const DATAGRAM: usize = 53;
 const END: usize = 67;
 
 // What is listed: index and number of every datagram, or the messages that are handed on.
-#[derive(Clone, Copy)]
+#[derive(Clone, Copy, Debug, PartialEq, Eq)]
 pub enum Listing {
     Numbers,
     Deliveries,
@@ -39,10 +40,9 @@ pub struct Gateway {
     pub counts: Counts,
 }
 
-// Number 0, the gateway after the datagrams, the octets that they took, and where the text ends; or the number of the refusal.
+// The gateway after the datagrams, the octets that they took, and where the text ends.
 #[derive(Clone, Copy)]
 pub struct Listed {
-    pub number: u8,
     pub gateway: Gateway,
     pub taken: usize,
     pub end: usize,
@@ -76,10 +76,9 @@ fn put_source(text: &mut [u8], at: usize, index: u64, t: Transaction) -> usize
     requires { at + 31 ≤ length text.old }
     ensures { Wrote (source_part index t) text.old at result text.new }
 {
-    let source = t.source;
     let first = texts::put_decimal(text, at, index);
     let second = texts::put_word(text, first, b" ");
-    texts::put_decimal(text, second, source.0 as u64)
+    texts::put_decimal(text, second, t.source.0 as u64)
 }
 
 // Its SAP and length.
@@ -233,18 +232,21 @@ fn answer(
         × AtMost (line_room listing) (listed_line listing g.counts.datagrams (outcome_of (running g store.old) datagram.now))
         text.old at result.end text.new }
 {
-    let rx = g.receiver;
-    let counts = g.counts;
-    let step = reception::on_datagram(rx, store, datagram);
-    let a = step.answer;
+    let step = reception::on_datagram(g.receiver, store, datagram);
     let next = step.receiver;
-    let t = next.transaction;
-    let end = put_line(listing, text, at, counts.datagrams, t, a, store);
-    let more = counting::counted(counts, a);
+    let end = put_line(
+        listing,
+        text,
+        at,
+        g.counts.datagrams,
+        next.transaction,
+        step.answer,
+        store,
+    );
     Step {
         gateway: Gateway {
             receiver: next,
-            counts: more,
+            counts: counting::counted(g.counts, step.answer),
         },
         end,
     }
@@ -265,18 +267,20 @@ fn answer_all(
         × (result.end ≤ line_room listing * count) }
 {
     let size = octets.len();
-    let mut now = g;
-    let mut end: usize = 0;
-    let mut i: usize = 0;
-    while i < count {
+    let mut now = Step { gateway: g, end: 0 };
+    for i in 0..count {
         let at = DATAGRAM * i;
         let next = at + foundation::octets::shorter(DATAGRAM, size - at);
-        let step = answer(listing, now, store, &octets[at..next], text, end);
-        now = step.gateway;
-        end = step.end;
-        i += 1;
+        now = answer(
+            listing,
+            now.gateway,
+            store,
+            &octets[at..next],
+            text,
+            now.end,
+        );
     }
-    Step { gateway: now, end }
+    now
 }
 
 // How many datagrams are answered: those that have come whole, or all where nothing follows; no more than there is room for.
@@ -313,17 +317,6 @@ fn octets_of(k: usize, size: usize) -> usize
     DATAGRAM * k
 }
 
-fn refused(g: Gateway) -> Listed
-    ensures { result ≡ record { number = 1; gateway = g; taken = 0; end = 0 } }
-{
-    Listed {
-        number: 1,
-        gateway: g,
-        taken: 0,
-        end: 0,
-    }
-}
-
 // Octets of datagrams at a gateway: the lines of those that have come whole, at the start of the text, and of leftover octets too where
 // nothing follows; as many as there is room for. The octets behind those taken are not answered yet.
 pub fn list(
@@ -333,27 +326,22 @@ pub fn list(
     octets: &[u8],
     last: bool,
     text: &mut [u8],
-) -> Listed
-    ensures { (result ≡ Captures·list listing g store.old octets.now last text.old)
+) -> Result<Listed, Refusal>
+    ensures { (result ≡ listed_given (Captures·list listing g store.old octets.now last text.old))
         × (store.new ≡ store_after listing g store.old octets.now last text.old)
         × (text.new ≡ text_after listing g store.old octets.now last text.old)
-        × ListClaims listing (running g store.old) octets.now last text.old result store.new text.new }
+        × ListClaims listing (running g store.old) octets.now last text.old (Captures·list listing g store.old octets.now last text.old) store.new text.new }
 {
     let size = octets.len();
     let room = text.len();
-    if store.len() != STORE {
-        return refused(g);
-    }
-    if room < line_room(listing) {
-        return refused(g);
+    if store.len() != STORE || room < line_room(listing) {
+        return Err(Refusal::Size);
     }
     let k = count(listing, size, last, room);
     let step = answer_all(listing, g, store, octets, k, text);
-    let gateway = step.gateway;
-    Listed {
-        number: 0,
-        gateway,
+    Ok(Listed {
+        gateway: step.gateway,
         taken: octets_of(k, size),
         end: step.end,
-    }
+    })
 }

@@ -8,7 +8,8 @@ use inputs::programs;
 use std::env::Env;
 
 fn main(rt: HostRuntime) {
-    programs::program(&rt, rt.arg(1, &mut [0; 1]), "delivered", "CAPTURE", || {
-        listings::list(&mut rt.stdin(), &mut rt.stdout(), Listing::Deliveries)
-    });
+    if programs::called_alone(&rt, rt.arg(1, &mut [0; 1]), "delivered", "CAPTURE") {
+        let done = listings::list(&mut rt.stdin(), &mut rt.stdout(), Listing::Deliveries);
+        programs::came_to_its_end(&rt, "delivered", done);
+    }
 }

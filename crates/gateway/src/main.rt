@@ -7,7 +7,8 @@ use inputs::programs;
 use std::env::Env;
 
 fn main(rt: HostRuntime) {
-    programs::program(&rt, rt.arg(1, &mut [0; 1]), "gateway", "CAPTURE", || {
-        listings::list(&mut rt.stdin(), &mut rt.stdout(), Listing::Numbers)
-    });
+    if programs::called_alone(&rt, rt.arg(1, &mut [0; 1]), "gateway", "CAPTURE") {
+        let done = listings::list(&mut rt.stdin(), &mut rt.stdout(), Listing::Numbers);
+        programs::came_to_its_end(&rt, "gateway", done);
+    }
 }

@@ -12,10 +12,9 @@ use Rattle.counting.specs.Counts.{counts_of}
 use Rattle.counting.specs.declared.Counts.{Counts}
 use Rattle.captures.specs.declared.Gateway.{Gateway}
 use Rattle.captures.specs.declared.Listing.{Listing}
-use Rattle.captures.specs.declared.Listed.{Listed}
 use Rattle.captures.specs.declared.Listing.TheVariants.{Numbers, Deliveries}
 use Rattle.captures.specs.Lines.{Outcome, listed, line_room, closing}
-use Rattle.captures.specs.Captures.{datagram_size, whole_in, list, list_number, datagrams_answered, octets_of, cut, datagrams_of, Running, running, started, answers_given, left_by_all, lines_of, printed}
+use Rattle.captures.specs.Captures.{ListAnswer, datagram_size, whole_in, list, list_number, datagrams_answered, octets_of, cut, datagrams_of, Running, running, started, answers_given, left_by_all, lines_of, printed}
 use Rattle.captures.specs.Rule.{outcomes_by_rule, history_over}
 use Rattle.captures.proofs.Runs.{lines_none}
 use Rattle.captures.proofs.Rule.{by_rule}
@@ -35,13 +34,13 @@ unfolding line_room
 few_taken Numbers size room n h e z = omega (arith, e, z)
 few_taken Deliveries size room n h e z = omega (arith, e, z)
 
-pub few_left : (l : Listing) (g : Gateway) (store os text : List ℕ) (last : Bool) (r : Listed) → length store ≡ store_size → line_room l ≤ length text
+pub few_left : (l : Listing) (g : Gateway) (store os text : List ℕ) (last : Bool) (r : ListAnswer) → length store ≡ store_size → line_room l ≤ length text
     → r ≡ list l g store os last text → last ≡ false → r.taken ≡ 0 → length os < 65538
 unfolding list list_number first_failed datagrams_answered octets_of
 few_left l g store os text last r room line e f z =
     let none : list_number l store text ≡ 0 = rw (eq-eqb (length store) store_size room, le-leb (line_room l) (length text) line) in
     let taken : r.taken ≡ min (datagram_size * min (whole_in (length os)) (length text / line_room l)) (length os) =
-    ap (λ (x : Listed). x.taken) (e ∙ ap (λ (b : Bool). list l g store os b text) f) ∙ rw none refl in
+    ap (λ (x : ListAnswer). x.taken) (e ∙ ap (λ (b : Bool). list l g store os b text) f) ∙ rw none refl in
     omega (arith, few_taken l (length os) (length text) r.taken line taken z)
 
 -- nothing more to come

@@ -35,7 +35,8 @@ impl Printer for Lister {
             octets,
             last,
             text,
-        );
+        )
+        .unwrap();
         self.gateway = listed.gateway;
         Printed {
             taken: listed.taken,

@@ -5,7 +5,6 @@ use lib.ListN.{length-replicate}
 use lib.Dec.{leb}
 use borrow.Author.Tests.{eq-eqb, le-leb, leb-true, leb-false}
 use Rattle.foundation.specs.Order.{all, first_failed}
-use Rattle.replays.specs.declared.Replayed.{Replayed}
 use Rattle.foundation.proofs.OctetLists.{Octets}
 use Rattle.addresses.specs.Octets.{address_at}
 use Rattle.receiver_state.specs.Receiver.{store_size, Fresh, fresh_for}
@@ -17,7 +16,7 @@ use Rattle.logs.specs.Log.{state_of}
 use Rattle.replays.specs.Log.{records_of, records, record_end, is_whole, octets_taken}
 use Rattle.replays.specs.Text.{report_text, report_room}
 use Rattle.replays.specs.Rule.{lines_from}
-use Rattle.replays.specs.Replay.{lines_given, report_from, replay_number, replayed}
+use Rattle.replays.specs.Replay.{ReplayAnswer, lines_given, report_from, replay_number, replayed}
 use Rattle.replays.proofs.Rule.{given-all, by_rule_all}
 use Rattle.replay.specs.Reports.{report_of}
 use Rattle.replay.specs.declared.Reporter.{Reporter}
@@ -40,13 +39,13 @@ module _ (os : List ℕ) (o : Octets os) where
       go false e = leb-false 65538 (length os) e
       go true e = absurd (omega (arith, z, taken_more k (whole_by (leb-true 65538 (length os) e))))
 
-pub few_left : (rx : Receiver) (store os text : List ℕ) (last : Bool) (r : Replayed) → Octets os → length store ≡ store_size
+pub few_left : (rx : Receiver) (store os text : List ℕ) (last : Bool) (r : ReplayAnswer) → Octets os → length store ≡ store_size
     → report_room ≤ length text → r ≡ replayed rx store os last text → last ≡ false → r.taken ≡ 0 → length os < 65538
 unfolding replayed replay_number first_failed
 few_left rx store os text last r o room line e f z =
     let none : replay_number store text ≡ 0 = rw (eq-eqb (length store) store_size room, le-leb report_room (length text) line) refl in
     let taken : r.taken ≡ octets_taken false (length text / report_room) os =
-    ap (λ (x : Replayed). x.taken) (e ∙ ap (λ (b : Bool). replayed rx store os b text) f) ∙ rw none refl in
+    ap (λ (x : ReplayAnswer). x.taken) (e ∙ ap (λ (b : Bool). replayed rx store os b text) f) ∙ rw none refl in
     few_taken os o (length text / report_room) (omega (arith, line)) (sym taken ∙ z)
 
 -- nothing more to come

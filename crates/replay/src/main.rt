@@ -27,7 +27,8 @@ impl Printer for Reporter {
     ghost whole = { λ s. report_from (state_of s.receiver s.store) };
 
     fn answer(&mut self, octets: &[u8], last: bool, text: &mut [u8]) -> Printed {
-        let replayed = replays::replay(self.receiver, &mut self.store, octets, last, text);
+        let replayed =
+            replays::replay(self.receiver, &mut self.store, octets, last, text).unwrap();
         self.receiver = replayed.receiver;
         Printed {
             taken: replayed.taken,
@@ -68,7 +69,8 @@ fn report<R: Read, W: Write>(from: &mut R, to: &mut W) -> Result<Ended, Failed>
 }
 
 fn main(rt: HostRuntime) {
-    programs::program(&rt, rt.arg(1, &mut [0; 1]), "replay", "LOG", || {
-        report(&mut rt.stdin(), &mut rt.stdout())
-    });
+    if programs::called_alone(&rt, rt.arg(1, &mut [0; 1]), "replay", "LOG") {
+        let done = report(&mut rt.stdin(), &mut rt.stdout());
+        programs::came_to_its_end(&rt, "replay", done);
+    }
 }

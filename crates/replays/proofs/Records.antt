@@ -15,7 +15,8 @@ use Rattle.foundation.proofs.Tests.{either, never, same_test}
 use Rattle.foundation.proofs.Order.{all_nil, all_cons, all-at, all_fails}
 use Rattle.logs.specs.Log.{Record, none, record_of}
 use Rattle.replays.specs.Log.{record_end, is_whole, first_record, records, octets_taken, records_of}
-use Rattle.replays.specs.Parts.{Cuts}
+use Rattle.replays.specs.Parts.{Comes, NoneComes, Cuts}
+use Rattle.std.specs.Prelude.{Option, Some, None}
 use Rattle.replays.specs.declared.Cut.{Cut}
 
 -- ---- whole or not
@@ -120,20 +121,18 @@ module _ (os : List ℕ) (at : ℕ) (last : Bool) (inside : at ≤ length os) wh
 
   -- cut short by the end, where nothing follows, or not all there yet
   module _ (short : is_whole rest ≡ false) where
-    the_last : all (last ∷ ltb at (length os) ∷ []) ≡ true → Cuts os at last (record { come = true; kind = 255; start = length os; end = length os })
+    the_last : all (last ∷ ltb at (length os) ∷ []) ≡ true → Comes os at last (record { kind = 255; start = length os; end = length os })
     the_last t =
         let gone : drop (length os) os ≡ [] = drop_of_length-le os (le_refl (length os)) in
         let more : all (last ∷ ltb 0 (length rest) ∷ []) ≡ true = ap (λ (b : Bool). all (last ∷ b ∷ [])) some ∙ t in
         record {
           starts = omega arith;
           within = omega arith;
-          later = λ _. ltb-true at (length os) (all-at _ 1 t);
-          first = λ _ k. first_last last k rest short more
+          later = ltb-true at (length os) (all-at _ 1 t);
+          first = λ k. first_last last k rest short more
               ∙ ap₂ (λ (r : Record) (rs : List Record). r ∷ rs) (sym (no_kind _)) (sym (ap (records last k) gone ∙ none_in_none last k));
-          taken = λ _ k. taken_last last k rest short (all-at _ 0 t) ∙ left
+          taken = λ k. taken_last last k rest short (all-at _ 0 t) ∙ left
               ∙ sym (ap (λ (n : ℕ). length os - at + n) (ap (octets_taken last k) gone ∙ none-taken last k) ∙ add-zero (length os - at));
-          no_more = λ e. never refl e;
-          no_octets_lem = λ e. never refl e;
         }
 
     module _ (t : all (last ∷ ltb at (length os) ∷ []) ≡ false) where
@@ -152,21 +151,11 @@ module _ (os : List ℕ) (at : ℕ) (last : Bool) (inside : at ≤ length os) wh
           (λ v. taken_last last k rest short u ∙ omega (arith, ltb-false 0 (length rest) v)))
           (taken_none last k rest short)
 
-      not_yet : Cuts os at last (record { come = false; kind = 255; start = at; end = at })
-      not_yet = record {
-        starts = omega arith;
-        within = inside;
-        later = λ e. never e refl;
-        first = λ e. never e refl;
-        taken = λ e. never e refl;
-        no_more = λ _. none_come;
-        no_octets_lem = λ _. none_go;
-      }
+      not_yet : NoneComes os at last
+      not_yet = record { no_more = none_come; no_octets_lem = none_go }
 
-    pub cut_short : (c : Cut)
-        → c ≡ cond (all (last ∷ ltb at (length os) ∷ []))
-        (record { come = true; kind = 255; start = length os; end = length os }) (record { come = false; kind = 255; start = at; end = at })
-        → Cuts os at last c
+    pub cut_short : (c : Option Cut)
+        → c ≡ cond (all (last ∷ ltb at (length os) ∷ [])) (Some (record { kind = 255; start = length os; end = length os })) None → Cuts os at last c
     cut_short c e =
         either (all (last ∷ ltb at (length os) ∷ []))
         (λ t. subst (Cuts os at last) (sym (rw t at e)) (the_last t))
@@ -185,7 +174,7 @@ module _ (os : List ℕ) (at : ℕ) (last : Bool) (inside : at ≤ length os) wh
   short_late h = late rest (omega (arith, left, end_is))
 
   pub cut-whole : 3 ≤ length os - at → 3 + size ≤ length os - at
-      → Cuts os at last (record { come = true; kind = get_or os at 0; start = at + 3; end = at + (3 + size) })
+      → Comes os at last (record { kind = get_or os at 0; start = at + 3; end = at + (3 + size) })
   cut-whole room h =
       let t : is_whole rest ≡ true = whole rest (omega (arith, left)) (omega (arith, left, end_is)) in
       let n : at + (3 + size) - (at + 3) ≡ size = omega arith in
@@ -194,16 +183,14 @@ module _ (os : List ℕ) (at : ℕ) (last : Bool) (inside : at ≤ length os) wh
       record {
         starts = omega arith;
         within = omega arith;
-        later = λ _. omega arith;
-        first = λ _ k. first-whole last k rest t
+        later = omega arith;
+        first = λ k. first-whole last k rest t
             ∙ ap₂ (λ (r : Record) (rs : List Record). r ∷ rs)
             (ap₂ record_of (get_or-drop at os 0 0 ∙ ap (λ (i : ℕ). get_or os i 0) (add-zero at))
             (ap (λ (e : ℕ). drop 3 (take e rest)) end_is ∙ drop-take 3 size rest (omega (arith, left)) ∙ ap (take size) (drop-drop 3 at os)
             ∙ ap (λ (j : ℕ). take j (drop (at + 3) os)) (sym n)))
             (ap (records last k) behind);
-        taken = λ _ k. taken-whole last k rest t ∙ ap₂ ◌+◌ (end_is ∙ sym m) (ap (octets_taken last k) behind);
-        no_more = λ e. never refl e;
-        no_octets_lem = λ e. never refl e;
+        taken = λ k. taken-whole last k rest t ∙ ap₂ ◌+◌ (end_is ∙ sym m) (ap (octets_taken last k) behind);
       }
 
 -- ---- octets behind octets

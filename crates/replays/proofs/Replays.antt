@@ -1,6 +1,6 @@
 -- A part of a log: what `replay` ensures.
 -- Assumes nothing.
-use mathlib.Core.Path.{◌≡◌, refl, sym, ap, ap₂, ◌∙◌}
+use mathlib.Core.Path.{subst, ◌≡◌, refl, sym, ap, ap₂, ◌∙◌}
 use mathlib.Core.Bool.{Bool, true}
 use mathlib.Core.Logic.{◌≢◌}
 use mathlib.Core.List.{List, [], ◌∷◌, ◌++◌, append_assoc}
@@ -19,9 +19,15 @@ use Rattle.history.specs.Claims.{Octets}
 use Rattle.logs.specs.Log.{Record, state_of}
 use Rattle.replays.specs.Log.{records, octets_taken, records_of}
 use Rattle.replays.specs.Text.{line_text, report_text, report_room}
-use Rattle.replays.specs.Replay.{line_given, left_by_record, lines_given, left_by_records, report_from, replay_number, records_answered, replayed, store_replayed, text_replayed}
+use Rattle.replays.specs.Replay.{ReplayAnswer, replayed_given, line_given, left_by_record, lines_given, left_by_records, report_from, replay_number, records_answered, replayed, store_replayed, text_replayed}
 use Rattle.replays.specs.Claims.{ReplayClaims}
 use Rattle.replays.specs.declared.Replayed.{Replayed}
+use Rattle.std.specs.Prelude.{Result, Ok, Err}
+use Rattle.foundation.specs.Refusals.{outcome, refusal}
+use Rattle.foundation.proofs.Refusals.{ok_same}
+use Rattle.std.specs.Result.{IsOk}
+use Rattle.foundation.specs.declared.refusal.Refusal.{Refusal}
+use Rattle.foundation.specs.declared.refusal.Refusal.TheVariants.{Size}
 use Rattle.replays.proofs.Records.{splits, some_taken}
 use Rattle.replays.proofs.Rule.{given-all, as_the_rule}
 use Rattle.replays.proofs.Runs.{text_of}
@@ -44,27 +50,27 @@ goes_on s last k os more end =
 -- ---- what is given
 
 module _ (rx : Receiver) (store os : List ℕ) (last : Bool) (text : List ℕ) where
-  abbrev pub Replays : Replayed → List ℕ → List ℕ → Type 0
+  abbrev pub Replays : Result Replayed Refusal → List ℕ → List ℕ → Type 0
   Replays out store' text' =
-      (out ≡ replayed rx store os last text) × (store' ≡ store_replayed rx store os last text) × (text' ≡ text_replayed rx store os last text)
-      × ReplayClaims (state_of rx store) os last text out store' text'
+      (out ≡ replayed_given (replayed rx store os last text)) × (store' ≡ store_replayed rx store os last text) × (text' ≡ text_replayed rx store os last text)
+      × ReplayClaims (state_of rx store) os last text (replayed rx store os last text) store' text'
 
-  abbrev refusal : Replayed
-  refusal = record { number = 1; receiver = rx; taken = 0; end = 0 }
+  abbrev none_answered : ReplayAnswer
+  none_answered = record { number = 1; receiver = rx; taken = 0; end = 0 }
 
-  no_claims : ReplayClaims (state_of rx store) os last text refusal store text
+  no_claims : ReplayClaims (state_of rx store) os last text none_answered store text
   no_claims = record { goes_on = λ z. absurd (omega (arith, z)); by_rule = λ z. absurd (omega (arith, z)); ends = omega arith; takes = omega arith; takes_on = λ z. absurd (omega (arith, z)) }
 
-  refuses : replay_number store text ≡ 1 → Replays refusal store text
-  unfolding replayed store_replayed text_replayed
+  refuses : replay_number store text ≡ 1 → Replays (Err Size) store text
+  unfolding replayed replayed_given store_replayed text_replayed outcome refusal
   refuses e = rw e (refl, refl, refl, no_claims)
 
-  pub other_store : length store ≢ store_size → Replays refusal store text
+  pub other_store : length store ≢ store_size → Replays (Err Size) store text
   unfolding replay_number first_failed
   other_store h = refuses (rw (ne_eqb (length store) store_size h))
 
   module _ (room : length store ≡ store_size) where
-    pub no_line-room : length text < report_room → Replays refusal store text
+    pub no_line-room : length text < report_room → Replays (Err Size) store text
     unfolding replay_number first_failed
     no_line-room h = refuses (rw (eq-eqb (length store) store_size room, lt-leb report_room (length text) h))
 
@@ -77,6 +83,23 @@ module _ (rx : Receiver) (store os : List ℕ) (last : Bool) (text : List ℕ) w
       unfolding replayed
       taken-number = rw taken_on
 
+      -- it is taken, and what is given tells what `replayed` does
+      pub taken_ok : (r : Result Replayed Refusal) → r ≡ replayed_given (replayed rx store os last text) → IsOk r
+      unfolding replayed_given outcome
+      taken_ok r e = rw (e, taken-number)
+
+      pub taken_as : (r : Replayed) → Ok r ≡ replayed_given (replayed rx store os last text)
+          → ◌≡◌ {A = ReplayAnswer} (record { number = 0; receiver = r.receiver; taken = r.taken; end = r.end }) (replayed rx store os last text)
+      unfolding replayed_given
+      taken_as r e =
+          let x = replayed rx store os last text in
+          let same : r ≡ record { receiver = x.receiver; taken = x.taken; end = x.end } = sym (ok_same x.number _ r (sym e)) in
+          λ i. record { number = sym taken-number i; receiver = (same i).receiver; taken = (same i).taken; end = (same i).end }
+
+      pub ends_inside : (r : Replayed) → Ok r ≡ replayed_given (replayed rx store os last text) → (store' text' : List ℕ)
+          → ReplayClaims (state_of rx store) os last text (replayed rx store os last text) store' text' → r.end ≤ length text
+      ends_inside r e store' text' c = omega (arith, c.ends, ap (λ (x : ReplayAnswer). x.end) (taken_as r e))
+
       abbrev k : ℕ
       k = length text / report_room
 
@@ -88,7 +111,7 @@ module _ (rx : Receiver) (store os : List ℕ) (last : Bool) (text : List ℕ) w
 
       module _ (octets : Octets os) (rx' : Receiver) (store' : List ℕ) (taken end : ℕ) (text' : List ℕ) (left : state_of rx' store' ≡ left_by_records s rs)
           (wrote : Wrote (text_of s rs) text 0 end text') (few : end ≤ report_room * k) (et : taken ≡ octets_taken last k os) (inside : taken ≤ length os) where
-        abbrev given : Replayed
+        abbrev given : ReplayAnswer
         given = record { number = 0; receiver = rx'; taken = taken; end = end }
 
         ends : end ≤ length text
@@ -109,13 +132,17 @@ module _ (rx : Receiver) (store os : List ℕ) (last : Bool) (text : List ℕ) w
           takes_on = λ z t e. some_taken last k os t (omega arith) (sym et ∙ e);
         }
 
-        pub replays : Replays given store' text'
-        unfolding replayed store_replayed text_replayed records_answered
-        replays =
+        given_is : given ≡ replayed rx store os last text
+        unfolding replayed records_answered
+        given_is =
             let ended : end ≡ length (text_of s rs) = wrote.0 ∙ zero-add _ in
-            rw taken_on (
-              λ i. record { number = 0; receiver = (left i).receiver; taken = et i; end = ended i },
-              ap (λ (x : State). x.store) left,
-              wrote.1,
-              the_claims,
-            )
+            rw taken_on (λ i. record { number = 0; receiver = (left i).receiver; taken = et i; end = ended i })
+
+        pub replays : Replays (Ok (record { receiver = rx'; taken = taken; end = end })) store' text'
+        unfolding replayed_given store_replayed text_replayed records_answered outcome
+        replays = (
+          ap replayed_given given_is,
+          rw taken_on (ap (λ (x : State). x.store) left),
+          rw taken_on wrote.1,
+          subst (λ (r : ReplayAnswer). ReplayClaims s os last text r store' text') given_is the_claims,
+        )

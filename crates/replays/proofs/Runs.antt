@@ -24,7 +24,7 @@ use Rattle.foundation.proofs.Refusals.{ok_zero, ok_same, err_number, number_err}
 use Rattle.replays.specs.Log.{records, octets_taken}
 use Rattle.replays.specs.Text.{line_text, report_text, report_room}
 use Rattle.replays.specs.Replay.{line_given, left_by_record, lines_given, left_by_records}
-use Rattle.replays.specs.Parts.{Cuts, code_text, octets_line}
+use Rattle.replays.specs.Parts.{Comes, code_text, octets_line}
 use Rattle.replays.specs.declared.Cut.{Cut}
 
 -- ---- one record, as `logs::recording::record` tells it
@@ -131,21 +131,21 @@ module _ (s : State) (os : List ℕ) (last : Bool) (most : ℕ) (text : List ℕ
       pub midway_room : i < most → end + report_room ≤ length text'
       midway_room h = omega (arith, m.wrote.0, m.few, midway_length)
 
-      pub midway_more : (c : Cut) → i < most → Cuts os at last c → c.come ≡ true → (s'' : State) (end'' : ℕ) (text'' : List ℕ)
+      pub midway_more : (c : Cut) → i < most → Comes os at last c → (s'' : State) (end'' : ℕ) (text'' : List ℕ)
           → s'' ≡ left_by_record s' (record_of c.kind (take (c.end - c.start) (drop c.start os)))
           → AtMost report_room (line_text (line_given s' (record_of c.kind (take (c.end - c.start) (drop c.start os))))) text' end end'' text''
           → length s''.store ≡ store_size → Midway s os last most text (i + 1) c.end s'' end'' text''
-      midway_more c h u come s'' end'' text'' left w size =
+      midway_more c h u s'' end'' text'' left w size =
           let r = record_of c.kind (take (c.end - c.start) (drop c.start os)) in
           let k = most - (i + 1) in
           let n : most - i ≡ suc k = omega arith in
           let later = records last k (drop c.end os) in
-          let step : records last (most - i) (drop at os) ≡ r ∷ later = ap (λ (j : ℕ). records last j (drop at os)) n ∙ u.first come k in
+          let step : records last (most - i) (drop at os) ≡ r ∷ later = ap (λ (j : ℕ). records last j (drop at os)) n ∙ u.first k in
           let line = line_text (line_given s' r) in
           let long : length line ≤ report_room = omega (arith, w.0.0, w.1) in
-          let go : at < c.end = u.later come in
+          let go : at < c.end = u.later in
           let octets : octets_taken last (most - i) (drop at os) ≡ (c.end - at) + octets_taken last k (drop c.end os) =
-          ap (λ (j : ℕ). octets_taken last j (drop at os)) n ∙ u.taken come k in
+          ap (λ (j : ℕ). octets_taken last j (drop at os)) n ∙ u.taken k in
           record {
             done = m.done ++ line;
             part = omega arith;

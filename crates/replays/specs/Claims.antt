@@ -10,12 +10,11 @@ use Rattle.history.specs.Claims.{Possible, Demand3, Once, fresh_state}
 use Rattle.logs.specs.Log.{Record, state_of}
 use Rattle.replays.specs.Log.{actions_of}
 use Rattle.replays.specs.Rule.{lines_from}
-use Rattle.replays.specs.Replay.{lines_given, report_from, records_answered}
-use Rattle.replays.specs.declared.Replayed.{Replayed}
+use Rattle.replays.specs.Replay.{ReplayAnswer, lines_given, report_from, records_answered}
 
 -- whatever follows these octets: the whole text is what is written now, and then the whole text of the octets not yet answered and of what
 -- follows, from the receiver and the store that are left. Nothing follows the last octets.
-abbrev pub ReportGoesOn : State → List ℕ → Bool → Replayed → List ℕ → List ℕ → Type 0
+abbrev pub ReportGoesOn : State → List ℕ → Bool → ReplayAnswer → List ℕ → List ℕ → Type 0
 ReportGoesOn s os last r store text =
     r.number ≡ 0 → (more : List ℕ) → (last ≡ true → more ≡ [])
     → report_from s (os ++ more) ≡ take r.end text ++ report_from (state_of r.receiver store) (drop r.taken os ++ more)
@@ -35,13 +34,13 @@ pub record AsTheRule (own : RadioAddress) (first : List ℕ) (past rs : List Rec
   pub claims : LogClaims own first (actions_of (past ++ rs))
 
 -- for every past that led to this receiver and this store
-abbrev pub ReportsByRule : State → List Record → Replayed → List ℕ → Type 0
+abbrev pub ReportsByRule : State → List Record → ReplayAnswer → List ℕ → Type 0
 ReportsByRule s rs r store =
     r.number ≡ 0 → (own : RadioAddress) (first : List ℕ) (past : List Record) → own.0 < 2 ^ 24 → length first ≡ store_size
     → Possible (actions_of past) → s ≡ left (fresh_state own first) (actions_of past) → AsTheRule own first past rs s (state_of r.receiver store)
 
 -- all of these, of what `replay` gives; and that it ends inside the text, takes no more than there is, and takes some of the last octets
-pub record ReplayClaims (s : State) (os : List ℕ) (last : Bool) (text : List ℕ) (r : Replayed) (store' text' : List ℕ) : Type 0 where
+pub record ReplayClaims (s : State) (os : List ℕ) (last : Bool) (text : List ℕ) (r : ReplayAnswer) (store' text' : List ℕ) : Type 0 where
   pub goes_on : ReportGoesOn s os last r store' text'
   pub by_rule : ReportsByRule s (records_answered last os text) r store'
   pub ends : r.end ≤ length text

@@ -1,6 +1,6 @@
 -- What private functions require and give: nothing that a reader has to believe.
 -- Assumes nothing.
-use Rattle.std.specs.Prelude.{◌≡◌, Bool, true, false, cond, List, [], ◌∷◌, ℕ, suc, ◌+◌, ◌*◌, ◌-◌, ◌≤◌, ◌<◌, min, eqb, length, get_or, take, drop}
+use Rattle.std.specs.Prelude.{◌≡◌, Option, Some, None, Bool, cond, List, [], ◌∷◌, ℕ, suc, ◌+◌, ◌*◌, ◌-◌, ◌≤◌, ◌<◌, min, eqb, length, get_or, take, drop}
 use Rattle.texts.specs.Texts.{decimal, octets_text, blank, line_feed, parts}
 use Rattle.stored.specs.Stored.{stored_block}
 use Rattle.transactions.specs.Answers.{opened, repeat, stored, bad}
@@ -10,15 +10,21 @@ use Rattle.replays.specs.Text.{line_text}
 use Rattle.replays.specs.declared.Cut.{Cut}
 
 -- the record at a place of the octets: what it is, and that the records after it follow
-pub record Cuts (os : List ℕ) (at : ℕ) (last : Bool) (c : Cut) : Type 0 where
+pub record Comes (os : List ℕ) (at : ℕ) (last : Bool) (c : Cut) : Type 0 where
   pub starts : c.start ≤ c.end
   pub within : c.end ≤ length os
-  pub later : c.come ≡ true → at < c.end
-  pub first : c.come ≡ true → (k : ℕ)
-      → records last (suc k) (drop at os) ≡ record_of c.kind (take (c.end - c.start) (drop c.start os)) ∷ records last k (drop c.end os)
-  pub taken : c.come ≡ true → (k : ℕ) → octets_taken last (suc k) (drop at os) ≡ (c.end - at) + octets_taken last k (drop c.end os)
-  pub no_more : c.come ≡ false → (k : ℕ) → records last k (drop at os) ≡ []
-  pub no_octets_lem : c.come ≡ false → (k : ℕ) → octets_taken last k (drop at os) ≡ 0
+  pub later : at < c.end
+  pub first : (k : ℕ) → records last (suc k) (drop at os) ≡ record_of c.kind (take (c.end - c.start) (drop c.start os)) ∷ records last k (drop c.end os)
+  pub taken : (k : ℕ) → octets_taken last (suc k) (drop at os) ≡ (c.end - at) + octets_taken last k (drop c.end os)
+
+-- no record has come there
+pub record NoneComes (os : List ℕ) (at : ℕ) (last : Bool) : Type 0 where
+  pub no_more : (k : ℕ) → records last k (drop at os) ≡ []
+  pub no_octets_lem : (k : ℕ) → octets_taken last k (drop at os) ≡ 0
+
+abbrev pub Cuts : List ℕ → ℕ → Bool → Option Cut → Type 0
+Cuts os at last None = NoneComes os at last
+Cuts os at last (Some c) = Comes os at last c
 
 -- the contents of a line in octets
 unfoldable pub contents_in : List ℕ → List ℕ

@@ -1,8 +1,10 @@
 -- The replay of a part of a log: records at a receiver, and a line of text for each.
 -- Assumes nothing.
-use Rattle.std.specs.Prelude.{Bool, cond, List, [], ◌∷◌, ℕ, ◌/◌, eqb, leb, length}
+use Rattle.std.specs.Prelude.{Result, Bool, cond, List, [], ◌∷◌, ℕ, ◌/◌, eqb, leb, length}
 use Rattle.foundation.specs.Octets.{put}
 use Rattle.foundation.specs.Order.{first_failed}
+use Rattle.foundation.specs.Refusals.{outcome}
+use Rattle.foundation.specs.declared.refusal.Refusal.{Refusal}
 use Rattle.transactions.specs.Answers.{refused}
 use Rattle.receiver_state.specs.Receiver.{store_size, receiver_good}
 use Rattle.receiver_state.specs.declared.Receiver.{Receiver}
@@ -44,8 +46,18 @@ replay_number store text = first_failed ((eqb (length store) store_size, 1) ∷ 
 unfoldable pub records_answered : Bool → List ℕ → List ℕ → List Record
 records_answered last os text = records last (length text / report_room) os
 
+-- number 0, the receiver after the records, the octets that they took, and where the text ends; or the number of the refusal
+pub record ReplayAnswer : Type 0 where
+  pub number : ℕ
+  pub receiver : Receiver
+  pub taken : ℕ
+  pub end : ℕ
+
+unfoldable pub replayed_given : ReplayAnswer → Result Replayed Refusal
+replayed_given r = outcome r.number (record { receiver = r.receiver; taken = r.taken; end = r.end })
+
 -- the receiver, the store and the text after it; a refusal changes nothing
-unfoldable pub replayed : Receiver → List ℕ → List ℕ → Bool → List ℕ → Replayed
+unfoldable pub replayed : Receiver → List ℕ → List ℕ → Bool → List ℕ → ReplayAnswer
 replayed rx store os last text =
     let s = state_of rx store in
     let rs = records_answered last os text in

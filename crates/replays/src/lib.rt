@@ -1,7 +1,7 @@
 // A part of a log: records at a receiver, and a line of text for each. What a program is left with is reading and writing.
 #![tactic(auto)]
 
-ghost use Rattle.std.specs.Prelude.{◌≡◌, true, false, cond, [], ◌∷◌, ◌+◌, ◌*◌, ◌/◌, ◌≤◌, ltb, length};
+ghost use Rattle.std.specs.Prelude.{◌≡◌, cond, [], ◌∷◌, Some, None, ◌+◌, ◌*◌, ◌/◌, ◌≤◌, ltb, length};
 ghost use Rattle.addresses.specs.Octets.{address_at};
 ghost use Rattle.foundation.specs.Order.{all};
 ghost use Rattle.receiver_state.specs.Receiver.{store_size, fresh_for};
@@ -10,10 +10,11 @@ ghost use Rattle.texts.specs.Parts.{Wrote, AtMost};
 ghost use Rattle.logs.specs.Log.{record_of, line_size, state_of};
 ghost use Rattle.replays.specs.Log.{records, octets_taken};
 ghost use Rattle.replays.specs.Text.{line_text, report_text, report_room};
-ghost use Rattle.replays.specs.Replay.{line_given, left_by_record, lines_given, left_by_records, replayed, store_replayed, text_replayed};
+ghost use Rattle.replays.specs.Replay.{line_given, left_by_record, lines_given, left_by_records, replayed, replayed_given, store_replayed, text_replayed};
 ghost use Rattle.replays.specs.Claims.{ReplayClaims};
 ghost use Rattle.replays.specs.Parts.{Cuts, code_text, octets_line};
 
+use foundation::refusal::Refusal;
 use logs::recording::LINE;
 use receiver_state::{Receiver, STORE};
 
@@ -31,10 +32,9 @@ const CONTENTS: usize = 1024;
 // Octets of text that every line has room in.
 pub const ROOM: usize = 2064;
 
-// Number 0, the receiver after the records, the octets that they took, and where the text ends; or the number of the refusal.
+// The receiver after the records, the octets that they took, and where the text ends.
 #[derive(Clone, Copy)]
 pub struct Replayed {
-    pub number: u8,
     pub receiver: Receiver,
     pub taken: usize,
     pub end: usize,
@@ -122,40 +122,32 @@ fn put_line(text: &mut [u8], at: usize, line: &[u8]) -> usize
 
 // ---- records
 
-// A record in a log: whether it has come, its kind, and where its octets begin and end.
+// A record in a log that has come: its kind, and where its octets begin and end.
 #[derive(Clone, Copy)]
 pub struct Cut {
-    pub come: bool,
     pub kind: u8,
     pub start: usize,
     pub end: usize,
 }
 
 // Octets of a record that are not all: none of their own where more may follow; else the last record, which has no kind and no octets.
-fn cut_short(last: bool, at: usize, size: usize) -> Cut
-    ensures { result ≡ cond (all (last ∷ ltb at size ∷ []))
-        (record { come = true; kind = 255; start = size; end = size }) (record { come = false; kind = 255; start = at; end = at }) }
+#[tactic(auto, unfolding(foundation::specs::Order::all))]
+fn cut_short(last: bool, at: usize, size: usize) -> Option<Cut>
+    ensures { result ≡ cond (all (last ∷ ltb at size ∷ [])) (Some (record { kind = 255; start = size; end = size })) None }
 {
-    if last {
-        if at < size {
-            return Cut {
-                come: true,
-                kind: NONE,
-                start: size,
-                end: size,
-            };
-        }
-    }
-    Cut {
-        come: false,
-        kind: NONE,
-        start: at,
-        end: at,
+    if last && at < size {
+        Some(Cut {
+            kind: NONE,
+            start: size,
+            end: size,
+        })
+    } else {
+        None
     }
 }
 
 // The record at a place of the octets.
-fn cut_at(octets: &[u8], at: usize, last: bool) -> Cut
+fn cut_at(octets: &[u8], at: usize, last: bool) -> Option<Cut>
     requires { at ≤ length octets.now }
     ensures { Cuts octets.now at last result }
 {
@@ -167,12 +159,11 @@ fn cut_at(octets: &[u8], at: usize, last: bool) -> Cut
     if size - at < 3 + n {
         return cut_short(last, at, size);
     }
-    Cut {
-        come: true,
+    Some(Cut {
         kind: octets[at],
         start: at + 3,
         end: at + (3 + n),
-    }
+    })
 }
 
 // The receiver after a record, and where its line ends.
@@ -208,14 +199,6 @@ fn answer(
     }
 }
 
-// The receiver after records, the octets that they took, and where their lines end.
-#[derive(Clone, Copy)]
-pub struct Step {
-    pub receiver: Receiver,
-    pub taken: usize,
-    pub end: usize,
-}
-
 // The first records of the octets that have come, at most so many, and their lines at the start of the text.
 fn answer_all(
     rx: Receiver,
@@ -224,49 +207,36 @@ fn answer_all(
     last: bool,
     most: usize,
     text: &mut [u8],
-) -> Step
+) -> Replayed
     requires { (length store.old ≡ store_size) × (report_room * most ≤ length text.old) }
     ensures { (state_of result.receiver store.new ≡ left_by_records (state_of rx store.old) (records last most octets.now))
         × Wrote (report_text (lines_given (state_of rx store.old) (records last most octets.now))) text.old 0 result.end text.new
         × (result.end ≤ report_room * most) × (result.taken ≡ octets_taken last most octets.now) × (result.taken ≤ length octets.now) }
 {
-    let mut now = rx;
-    let mut at: usize = 0;
-    let mut end: usize = 0;
-    let mut i: usize = 0;
-    while i < most {
-        let c = cut_at(octets, at, last);
-        if !c.come {
-            return Step {
-                receiver: now,
-                taken: at,
-                end,
-            };
-        }
-        let from = c.start;
-        let to = c.end;
-        let told = answer(now, store, c.kind, &octets[from..to], text, end);
-        now = told.receiver;
-        at = to;
-        end = told.end;
-        i += 1;
-    }
-    Step {
-        receiver: now,
-        taken: at,
-        end,
-    }
-}
-
-fn refused(rx: Receiver) -> Replayed
-    ensures { result ≡ record { number = 1; receiver = rx; taken = 0; end = 0 } }
-{
-    Replayed {
-        number: 1,
+    let mut now = Replayed {
         receiver: rx,
         taken: 0,
         end: 0,
+    };
+    for i in 0..most {
+        let Some(c) = cut_at(octets, now.taken, last) else {
+            return now;
+        };
+        let told = answer(
+            now.receiver,
+            store,
+            c.kind,
+            &octets[c.start..c.end],
+            text,
+            now.end,
+        );
+        now = Replayed {
+            receiver: told.receiver,
+            taken: c.end,
+            end: told.end,
+        };
     }
+    now
 }
 
 // Octets of records at a receiver: the lines of those that have come whole, at the start of the text, and of leftover octets too where nothing
@@ -277,25 +247,15 @@ pub fn replay(
     octets: &[u8],
     last: bool,
     text: &mut [u8],
-) -> Replayed
-    ensures { (result ≡ replayed rx store.old octets.now last text.old)
+) -> Result<Replayed, Refusal>
+    ensures { (result ≡ replayed_given (replayed rx store.old octets.now last text.old))
         × (store.new ≡ store_replayed rx store.old octets.now last text.old)
         × (text.new ≡ text_replayed rx store.old octets.now last text.old)
-        × ReplayClaims (state_of rx store.old) octets.now last text.old result store.new text.new }
+        × ReplayClaims (state_of rx store.old) octets.now last text.old (replayed rx store.old octets.now last text.old) store.new text.new }
 {
     let room = text.len();
-    if store.len() != STORE {
-        return refused(rx);
+    if store.len() != STORE || room < ROOM {
+        return Err(Refusal::Size);
     }
-    if room < ROOM {
-        return refused(rx);
-    }
-    let step = answer_all(rx, store, octets, last, room / ROOM, text);
-    let receiver = step.receiver;
-    Replayed {
-        number: 0,
-        receiver,
-        taken: step.taken,
-        end: step.end,
-    }
+    Ok(answer_all(rx, store, octets, last, room / ROOM, text))
 }

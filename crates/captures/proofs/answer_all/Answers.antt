@@ -15,14 +15,14 @@ pub loop-i-preserved : goal.loop-i-preserved
 loop-i-preserved c =
     let a = c.args in
     let l = c.loop-i in
-    let w = c.answer-step in
+    let w = c.answer-now in
     let size = length a.octets.now in
     let k : 53 * l.i + c.shorter.result - 53 * l.i ≡ min datagram_size (size - 53 * l.i) = omega (arith, c.shorter.ensures) in
-    midway_more a.listing a.g a.store.now a.octets.now a.text.now a.count l.i l.now l.store l.end l.text l.invariant
+    midway_more a.listing a.g a.store.now a.octets.now a.text.now a.count l.i l.now.gateway l.store l.now.end l.text l.invariant
     _ c.loop-i-test.true (datagram-at a.octets.now l.i _ k) c.requires.2 _ _ _ _ w.ensures.0 w.ensures.1 (w.auto.store ∙ l.invariant.room)
 
 pub returns : goal.returns
 returns c =
     let a = c.args in
     let l = c.loop-i in
-    midway_end a.listing a.g a.store.now a.octets.now a.text.now a.count l.i l.now l.store l.end l.text l.invariant (omega arith)
+    midway_end a.listing a.g a.store.now a.octets.now a.text.now a.count l.i l.now.gateway l.store l.now.end l.text l.invariant (omega arith)
