@@ -6,7 +6,6 @@ use Rattle.receiver_state.specs.declared.Receiver.{Receiver}
 use Rattle.receiver_state.proofs.Fresh.{fresh_at}
 use Rattle.counting.specs.declared.Counts.{Counts}
 use Rattle.captures.specs.Captures.{started}
-use Rattle.captures.specs.declared.Gateway.{Gateway}
 use Rattle.captures.proofs.start.Goals as goal
 
 pub returns : goal.returns
