@@ -5,11 +5,11 @@ ghost use Rattle.std.specs.Prelude.{◌≡◌, ◌+◌, ◌*◌, ◌^◌, ltb};
 ghost use Rattle.addresses.specs.Octets.{three_octets, four_octets, address_at, number_at};
 
 // A radio address. It has 24 bits where fits says so.
-#[derive(Clone, Copy)]
+#[derive(Clone, Copy, Debug, PartialEq, Eq)]
 pub struct RadioAddress(pub u32);
 
 // A repeater number, of 32 bits.
-#[derive(Clone, Copy)]
+#[derive(Clone, Copy, Debug, PartialEq, Eq)]
 pub struct RepeaterNumber(pub u32);
 
 // Whether an address has 24 bits.

@@ -1,2 +1,4 @@
 pub mod Behind
+pub mod Refusing
+pub mod PacketNumbers
 pub mod Acting

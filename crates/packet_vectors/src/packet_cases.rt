@@ -2,10 +2,10 @@
 ghost use Rattle.std.specs.Prelude.{◌≡◌, ◌+◌, ◌%◌, ◌^◌};
 
 use addresses::RadioAddress;
+use foundation::refusal::Refusal;
 use messages::message::Delivery;
-use messages::response::Reply;
+use messages::response::{Reply, ResponseOctets};
 use messages::{message, response};
-use packets::header::HeaderAnswer;
 use packets::{block, header};
 use report::Tally;
 use std::io::Write;
@@ -30,13 +30,20 @@ fn back() -> Delivery {
     }
 }
 
+// 0 for an answer, else the number of the refusal.
+fn number_of<T: Copy>(given: Result<T, Refusal>) -> u32 {
+    match given {
+        Ok(_) => 0,
+        Err(refusal) => report::wide(refusal.number()),
+    }
+}
+
 // 256 times the number of blocks and the pad, or the number of the refusal.
 fn sized(octets: usize) -> u32 {
-    let size = message::size_of(octets);
-    if size.number != 0 {
-        return report::wide(size.number);
+    match message::size_of(octets) {
+        Ok(size) => (report::wide(size.blocks) << 8) | report::wide(size.pad),
+        Err(refusal) => report::wide(refusal.number()),
     }
-    (report::wide(size.blocks) << 8) | report::wide(size.pad)
 }
 
 fn size<W: Write>(out: &mut W, t: Tally, text: &[u8], octets: usize, expected: u32) -> Tally
@@ -71,7 +78,7 @@ fn largest_sizes<W: Write>(out: &mut W, mut t: Tally) -> Tally
 fn block_of<W: Write>(out: &mut W, t: Tally, text: &[u8], n: usize, expected: &[u8]) -> Tally
     ensures { result.cases ≡ (t.cases + 1) % 2 ^ 32 }
 {
-    let octets = message::block(b"TARE -12.5 mm", n).octets;
+    let octets = message::block(b"TARE -12.5 mm", n).unwrap_or([0u8; 12]);
     report::octets(out, t, b"TARE -12.5 mm, ", text, &octets, expected)
 }
 
@@ -79,8 +86,8 @@ fn block_of<W: Write>(out: &mut W, t: Tally, text: &[u8], n: usize, expected: &[
 fn message_octets<W: Write>(out: &mut W, mut t: Tally) -> Tally
     ensures { result.cases ≡ (t.cases + 4) % 2 ^ 32 }
 {
-    let full = message::full_header(13, delivery()).octets;
-    let partial = message::partial_header(13, delivery(), 1).octets;
+    let full = message::full_header(13, delivery()).unwrap_or([0u8; 12]);
+    let partial = message::partial_header(13, delivery(), 1).unwrap_or([0u8; 12]);
     t = report::octets(
         out,
         t,
@@ -113,14 +120,6 @@ fn message_octets<W: Write>(out: &mut W, mut t: Tally) -> Tally
     )
 }
 
-// 0 for a header that is read, else the number of the refusal.
-fn header_number(octets: &[u8]) -> u32 {
-    match header::read(octets) {
-        HeaderAnswer::Accepted(_) => 0,
-        HeaderAnswer::Refused(number) => report::wide(number),
-    }
-}
-
 fn read_header<W: Write>(out: &mut W, t: Tally, text: &[u8], octets: &[u8], expected: u32) -> Tally
     ensures { result.cases ≡ (t.cases + 1) % 2 ^ 32 }
 {
@@ -130,7 +129,7 @@ fn read_header<W: Write>(out: &mut W, t: Tally, text: &[u8], octets: &[u8], expe
         b"reading a header, ",
         text,
         1,
-        header_number(octets),
+        number_of(header::read(octets)),
         expected,
     )
 }
@@ -163,7 +162,7 @@ fn read_block<W: Write>(out: &mut W, t: Tally, text: &[u8], octets: &[u8], expec
         b"reading a block, ",
         text,
         1,
-        report::wide(block::read(octets).number),
+        number_of(block::read(octets)),
         expected,
     )
 }
@@ -184,7 +183,7 @@ fn write_block<W: Write>(
         b"writing a block, ",
         text,
         2,
-        report::wide(block::write(serial, octets).number),
+        number_of(block::write(serial, octets)),
         expected,
     )
 }
@@ -211,10 +210,18 @@ fn flags() -> [u8; 8] {
     *b"\xfd\xff\xff\xff\xff\xff\xff\xff"
 }
 
+// What is written, or zeros.
+fn written(kind: Reply) -> ResponseOctets {
+    response::write(kind, back(), flags()).unwrap_or(ResponseOctets {
+        header: [0u8; 12],
+        block: None,
+    })
+}
+
 fn reply<W: Write>(out: &mut W, t: Tally, text: &[u8], kind: Reply, expected: &[u8]) -> Tally
     ensures { result.cases ≡ (t.cases + 1) % 2 ^ 32 }
 {
-    let octets = response::write(kind, back(), flags()).header;
+    let octets = written(kind).header;
     report::octets(out, t, b"response, N(S) 5, ", text, &octets, expected)
 }
 
@@ -247,7 +254,7 @@ fn replies<W: Write>(out: &mut W, mut t: Tally) -> Tally
 fn sack_block<W: Write>(out: &mut W, t: Tally) -> Tally
     ensures { result.cases ≡ (t.cases + 1) % 2 ^ 32 }
 {
-    let data = response::write(Reply::Sack, back(), flags()).block;
+    let data = written(Reply::Sack).block.unwrap_or([0u8; 12]);
     report::octets(
         out,
         t,
@@ -274,7 +281,7 @@ fn heard<W: Write>(
         b"reading a response, ",
         text,
         1,
-        report::wide(response::read(header, data).number),
+        number_of(response::read(header, data)),
         expected,
     )
 }
@@ -285,7 +292,10 @@ fn readings<W: Write>(out: &mut W, mut t: Tally) -> Tally
     let ack = b"\x01\x40\x1a\x0b\x0c\x00\x21\x04\x00\x0d\xa3\x3c";
     let sack = b"\x01\x40\x1a\x0b\x0c\x00\x21\x04\x01\x85\x80\x8d";
     let data = b"\xfd\xff\xff\xff\xff\xff\xff\xff\x00\xb6\xae\x30";
-    let found = response::read(sack, data).flags;
+    let found = match response::read(sack, data) {
+        Ok(fields) => fields.flags,
+        Err(_) => [0u8; 8],
+    };
     t = report::octets(
         out,
         t,

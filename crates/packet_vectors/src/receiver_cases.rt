@@ -18,11 +18,15 @@ fn response() -> ResponseOctets {
         pad: 0,
         blocks: 3,
     };
-    receiver::event::on_end(Receiver {
+    let rx = Receiver {
         own: RadioAddress(0x002104),
         phase: 1,
         transaction,
         flags: [5, 0, 0, 0, 0, 0, 0, 0],
+    };
+    receiver::event::on_end(rx).unwrap_or(ResponseOctets {
+        header: [0u8; 12],
+        block: None,
     })
 }
 
@@ -84,7 +88,7 @@ fn responses<W: Write>(out: &mut W, mut t: Tally) -> Tally
         t,
         b"its data block",
         b"",
-        &r.block,
+        &r.block.unwrap_or([0u8; 12]),
         b"\xFD\xFF\xFF\xFF\xFF\xFF\xFF\xFF\x00\xB6\xAE\x30",
     )
 }
