@@ -10,8 +10,7 @@ use Rattle.packets.specs.Blocks.{read_block, write_block}
 use Rattle.packets.specs.Headers.{read_header, write_header}
 use Rattle.messages.specs.Messages.{size_of, write_message_block, full_header, partial_header}
 use Rattle.messages.specs.Responses.{read_response, write_response}
-use Rattle.packets.specs.declared.header.HeaderAnswer.{HeaderAnswer}
-use Rattle.packets.specs.declared.header.HeaderAnswer.TheVariants.{Accepted, Refused}
+use Rattle.packets.specs.Headers.{HeaderAnswer, Accepted, Refused}
 use Rattle.layouts.specs.Lent.{Answer}
 use Rattle.layouts.specs.Layouts.{sync_of, reply_of, delivery_of, header_from, labels_from, size_octets, header_octets, block_octets, response_octets, burst_octets, datagram_octets}
 

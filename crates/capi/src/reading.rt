@@ -4,7 +4,6 @@ ghost use Rattle.capi.specs.Answers.{datagram_read, burst_read, header_read, blo
 
 use crate::refuse;
 use layouts::lent::{give, give_both};
-use packets::header::HeaderAnswer;
 
 // A datagram.
 #[unsafe(no_mangle)]
@@ -37,14 +36,8 @@ pub extern "C" fn kirruskabe_read_header(header: &[u8], out: &mut [u8]) -> u8
     ensures { Gives 16 (header_read header.now) out.old result out.new }
 {
     match packets::header::read(header) {
-        HeaderAnswer::Accepted(h) => {
-            let fields = layouts::fields::header_octets(h);
-            give(out, 0, &fields)
-        }
-        HeaderAnswer::Refused(number) => {
-            let none = [0u8; 16];
-            give(out, number, &none)
-        }
+        Ok(h) => give(out, 0, &layouts::fields::header_octets(h)),
+        Err(refusal) => refuse(out, 16, refusal),
     }
 }
 
@@ -53,9 +46,10 @@ pub extern "C" fn kirruskabe_read_header(header: &[u8], out: &mut [u8]) -> u8
 pub extern "C" fn kirruskabe_read_block(block: &[u8], out: &mut [u8]) -> u8
     ensures { Gives 11 (block_read block.now) out.old result out.new }
 {
-    let b = packets::block::read(block);
-    let head = [b.serial];
-    give_both(out, b.number, &head, &b.octets)
+    match packets::block::read(block) {
+        Ok(b) => give_both(out, 0, &[b.serial], &b.octets),
+        Err(refusal) => refuse(out, 11, refusal),
+    }
 }
 
 // A response: its header, and for a SACK its data block.
@@ -63,11 +57,14 @@ pub extern "C" fn kirruskabe_read_block(block: &[u8], out: &mut [u8]) -> u8
 pub extern "C" fn kirruskabe_read_response(header: &[u8], block: &[u8], out: &mut [u8]) -> u8
     ensures { Gives 18 (response_read header.now block.now) out.old result out.new }
 {
-    let a = messages::response::read(header, block);
+    let a = match messages::response::read(header, block) {
+        Ok(fields) => fields,
+        Err(refusal) => return refuse(out, 18, refusal),
+    };
     let to = addresses::radio_octets(a.destination);
     let from = addresses::radio_octets(a.source);
     let mut head = [a.class, a.kind, a.status, a.sap, 0, 0, 0, 0, 0, 0];
     foundation::octets::put(&mut head, 4, &to);
     foundation::octets::put(&mut head, 7, &from);
-    give_both(out, a.number, &head, &a.flags)
+    give_both(out, 0, &head, &a.flags)
 }

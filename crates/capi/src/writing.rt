@@ -1,9 +1,11 @@
 // Writers, for C.
 ghost use Rattle.std.specs.Prelude.{◌≡◌, cond, leb};
+ghost use Rattle.foundation.specs.Refusals.{outcome};
 ghost use Rattle.datagrams.specs.Datagrams.{next_sequence};
+ghost use Rattle.packets.specs.Headers.{header_given};
 ghost use Rattle.layouts.specs.Lent.{Gives};
 ghost use Rattle.layouts.specs.Layouts.{common_from, header_from, labels_from};
-ghost use Rattle.capi.specs.Answers.{message_size, header_before, header_again, message_block, fields_written, block_written, response_written, burst_written, datagram_written};
+ghost use Rattle.capi.specs.Answers.{message_size, header_before, header_again, message_block, header_written, fields_written, block_written, response_written, burst_written, datagram_written};
 
 use crate::refuse;
 use addresses::{RepeaterNumber, address_at, number_at};
@@ -11,7 +13,7 @@ use datagrams::Labels;
 use foundation::octets::{at, put};
 use foundation::refusal::Refusal;
 use layouts::lent::{give, give_both};
-use packets::header::{Common, HeaderAnswer};
+use packets::header::{Common, Header};
 
 // ---- messages
 
@@ -20,9 +22,10 @@ use packets::header::{Common, HeaderAnswer};
 pub extern "C" fn kirruskabe_message_size(octets: usize, out: &mut [u8]) -> u8
     ensures { Gives 2 (message_size octets) out.old result out.new }
 {
-    let size = messages::message::size_of(octets);
-    let both = [size.blocks, size.pad];
-    give(out, size.number, &both)
+    match messages::message::size_of(octets) {
+        Ok(size) => give(out, 0, &[size.blocks, size.pad]),
+        Err(refusal) => refuse(out, 2, refusal),
+    }
 }
 
 // The header before a whole message.
@@ -37,11 +40,11 @@ pub extern "C" fn kirruskabe_full_header(
 ) -> u8
     ensures { Gives 12 (header_before octets sap ns destination source) out.old result out.new }
 {
-    let w = messages::message::full_header(
-        octets,
-        layouts::fields::delivery(sap, ns, destination, source),
-    );
-    give(out, w.number, &w.octets)
+    let d = layouts::fields::delivery(sap, ns, destination, source);
+    match messages::message::full_header(octets, d) {
+        Ok(header) => give(out, 0, &header),
+        Err(refusal) => refuse(out, 12, refusal),
+    }
 }
 
 // The header before a repeat attempt with `count` of the message's blocks.
@@ -57,12 +60,11 @@ pub extern "C" fn kirruskabe_partial_header(
 ) -> u8
     ensures { Gives 12 (header_again octets count sap ns destination source) out.old result out.new }
 {
-    let w = messages::message::partial_header(
-        octets,
-        layouts::fields::delivery(sap, ns, destination, source),
-        count,
-    );
-    give(out, w.number, &w.octets)
+    let d = layouts::fields::delivery(sap, ns, destination, source);
+    match messages::message::partial_header(octets, d, count) {
+        Ok(header) => give(out, 0, &header),
+        Err(refusal) => refuse(out, 12, refusal),
+    }
 }
 
 // Block n of a message.
@@ -70,8 +72,10 @@ pub extern "C" fn kirruskabe_partial_header(
 pub extern "C" fn kirruskabe_message_block(message: &[u8], n: usize, out: &mut [u8]) -> u8
     ensures { Gives 12 (message_block message.now n) out.old result out.new }
 {
-    let w = messages::message::block(message, n);
-    give(out, w.number, &w.octets)
+    match messages::message::block(message, n) {
+        Ok(block) => give(out, 0, &block),
+        Err(refusal) => refuse(out, 12, refusal),
+    }
 }
 
 // ---- headers, blocks and responses
@@ -92,10 +96,17 @@ fn common_from(f: &[u8]) -> Common
     }
 }
 
-fn header_from(f: &[u8]) -> HeaderAnswer
-    ensures { result ≡ header_from f.now }
+fn header_from(f: &[u8]) -> Result<Header, Refusal>
+    ensures { result ≡ header_given (header_from f.now) }
 {
     packets::header::for_format(at(f, 0), common_from(f), at(f, 13), at(f, 14), at(f, 15))
+}
+
+// The octets of a header by its fields.
+fn header_written(f: &[u8]) -> Result<[u8; 12], Refusal>
+    ensures { result ≡ outcome (header_written (header_from f.now)).0 (header_written (header_from f.now)).1 }
+{
+    packets::header::write(header_from(f)?)
 }
 
 // A header by its fields.
@@ -106,15 +117,9 @@ pub extern "C" fn kirruskabe_write_header(fields: &[u8], out: &mut [u8]) -> u8
     if fields.len() != 16 {
         return 1;
     }
-    match header_from(fields) {
-        HeaderAnswer::Accepted(h) => {
-            let w = packets::header::write(h);
-            give(out, w.number, &w.octets)
-        }
-        HeaderAnswer::Refused(number) => {
-            let none = [0u8; 12];
-            give(out, number, &none)
-        }
+    match header_written(fields) {
+        Ok(octets) => give(out, 0, &octets),
+        Err(refusal) => refuse(out, 12, refusal),
     }
 }
 
@@ -123,8 +128,10 @@ pub extern "C" fn kirruskabe_write_header(fields: &[u8], out: &mut [u8]) -> u8
 pub extern "C" fn kirruskabe_write_block(serial: u8, octets: &[u8], out: &mut [u8]) -> u8
     ensures { Gives 12 (block_written serial octets.now) out.old result out.new }
 {
-    let w = packets::block::write(serial, octets);
-    give(out, w.number, &w.octets)
+    match packets::block::write(serial, octets) {
+        Ok(block) => give(out, 0, &block),
+        Err(refusal) => refuse(out, 12, refusal),
+    }
 }
 
 // The number, or 16 where a value is over the most that it may be.
@@ -150,16 +157,17 @@ pub extern "C" fn kirruskabe_write_response(
     if flags.len() != 8 {
         return 1;
     }
+    if 2 < reply {
+        return refuse(out, 24, Refusal::Unwritable);
+    }
     let mut os = [0u8; 8];
     put(&mut os, 0, flags);
-    let w = messages::response::write(
-        layouts::fields::reply_of(reply),
-        layouts::fields::delivery(sap, ns, destination, source),
-        os,
-    );
-    let header = w.header;
-    let block = w.block;
-    give_both(out, at_most(2, reply, w.number), &header, &block)
+    let kind = layouts::fields::reply_of(reply);
+    let d = layouts::fields::delivery(sap, ns, destination, source);
+    match messages::response::write(kind, d, os) {
+        Ok(r) => give_both(out, 0, &r.header, &r.block.unwrap_or([0u8; 12])),
+        Err(refusal) => refuse(out, 24, refusal),
+    }
 }
 
 // ---- bursts and datagrams

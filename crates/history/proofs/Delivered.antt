@@ -15,8 +15,8 @@ use Rattle.packets.specs.Blocks.{block_tests, written_block}
 use Rattle.messages.specs.Messages.{block_size, check_size, most_blocks, most_octets, blocks_of, pad_of, laid_out, block_data, confirmed_fsn, attempt_header, full_header}
 use Rattle.messages.specs.MessageClaims.{Within}
 use Rattle.packets.specs.declared.header.Header.{Header}
-use Rattle.packets.specs.declared.header.HeaderOctets.{HeaderOctets}
-use Rattle.packets.specs.declared.block.Block.{Block}
+use Rattle.packets.specs.Headers.{HeaderOctets}
+use Rattle.packets.specs.Blocks.{BlockRead}
 use Rattle.messages.specs.declared.message.Delivery.{Delivery}
 use Rattle.packets.proofs.HeaderClaims.{claims as headers}
 use Rattle.packets.proofs.BlockClaims.{claims as blocks}
@@ -119,7 +119,7 @@ module _ (m : List ℕ) (d : Delivery) (short : length m ≤ most_octets) (k : �
   pub kept_is : ◌≡◌ {A = Kept} (record { serial = serial_of b; octets = data_of b }) (record { serial = k; octets = block_data m k })
   unfolding serial_of data_of
   kept_is =
-      ap (λ (r : Block). record { serial = r.serial; octets = r.octets })
+      ap (λ (r : BlockRead). record { serial = r.serial; octets = r.octets })
       (sym (blocks.fields b twelve check-good) ∙ block_back k (block_data m k) narrow ten)
 
   serial : serial_of b ≡ k

@@ -19,12 +19,11 @@ use Rattle.foundation.proofs.Copying.{Grown, grown, grown_none}
 use Rattle.checks.specs.Checks.{message_good}
 use Rattle.packets.specs.Headers.{written_header, width_number, write_header}
 use Rattle.packets.specs.Blocks.{written_block}
-use Rattle.messages.specs.Messages.{block_size, check_size, most_octets, blocks_of, size_of, laid_out, block_data, joined, write_message_block, attempt_header, full_header}
+use Rattle.messages.specs.Messages.{block_size, check_size, most_octets, blocks_of, laid_out, block_data, joined, write_message_block, attempt_header, full_header}
 use Rattle.messages.specs.MessageClaims.{Within}
-use Rattle.packets.specs.declared.header.HeaderOctets.{HeaderOctets}
-use Rattle.packets.specs.declared.block.BlockOctets.{BlockOctets}
+use Rattle.packets.specs.Headers.{HeaderOctets}
+use Rattle.packets.specs.Blocks.{BlockOctets}
 use Rattle.messages.specs.declared.message.Delivery.{Delivery}
-use Rattle.messages.specs.declared.message.Size.{Size}
 use Rattle.packets.proofs.HeaderBack.{common_fits, last_fits}
 use Rattle.messages.proofs.MessageClaims.{messages}
 use Rattle.messages.proofs.MessageLayout.{joined-parts}
@@ -149,9 +148,6 @@ loops_back m d store₀ h n rx store a l e =
       handed_on_lem = λ z. (l.done e, rw zero-add (subst (λ (p : List ℕ). Grown p store₀ store) is l.written));
       refused = λ z. absurd (z (rw (eq-eqb (length store₀) store_size l.room₀, eq-eqb (full_header (length m) d).number 0 h)));
     }
-
-pub size-blocks : (n : ℕ) (s : Size) → n ≤ most_octets → s ≡ size_of n → s.blocks ≡ blocks_of n
-size-blocks n s short e = ap (λ (x : Size). x.blocks) (e ∙ messages.sized n short)
 
 module _ (m : List ℕ) (d : Delivery) (store : List ℕ) (room : length store ≡ store_size) (t : Taken (length m) d) where
   abbrev own : RadioAddress

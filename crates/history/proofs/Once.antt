@@ -9,7 +9,7 @@ use lib.ListN.{take}
 use borrow.Author.Tests.{eqb-true}
 use Rattle.addresses.specs.declared.RadioAddress.{RadioAddress}
 use Rattle.checks.specs.Checks.{message_good}
-use Rattle.messages.specs.declared.response.ResponseOctets.{ResponseOctets}
+use Rattle.messages.specs.Responses.{ResponseWritten}
 use Rattle.transactions.specs.Transactions.{transaction_of, is_full, heard_number, repeats, serial_of}
 use Rattle.foundation.specs.Order.{all}
 use Rattle.transactions.specs.Answers.{Said, refused, opened, repeat, stored, bad, message, response, response_to, response_said}
@@ -90,7 +90,7 @@ module _ (own : RadioAddress) (p : History) (rest : List Said) where
       go true true false false g taken phase o = rw (phase refl) o
       go false true u w g taken phase o = rw (phase refl) (weaker (shut (cond w (cond g (at 2 ks) (at 1 [])) (at 1 ks))) rest o)
 
-  after_end : (r : ResponseOctets) → Once (shut p) rest → Once (shut p) (response_said r ∷ rest)
+  after_end : (r : ResponseWritten) → Once (shut p) rest → Once (shut p) (response_said r ∷ rest)
   unfolding response_said
   after_end r o = go (eqb r.number 0)
     where

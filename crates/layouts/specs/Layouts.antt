@@ -8,16 +8,16 @@ use Rattle.bursts.specs.declared.burst.Sync.TheVariants.{Base, Mobile}
 use Rattle.datagrams.specs.Datagrams.{DatagramRead}
 use Rattle.datagrams.specs.declared.Labels.{Labels}
 use Rattle.packets.specs.Headers.{header_for}
-use Rattle.packets.specs.declared.block.Block.{Block}
+use Rattle.packets.specs.Blocks.{BlockRead}
 use Rattle.packets.specs.declared.header.Common.{Common}
 use Rattle.packets.specs.declared.header.Header.{Header}
 use Rattle.packets.specs.declared.header.Header.TheVariants.{Response, Unconfirmed, Confirmed}
-use Rattle.packets.specs.declared.header.HeaderAnswer.{HeaderAnswer}
+use Rattle.packets.specs.Headers.{HeaderAnswer}
 use Rattle.messages.specs.declared.message.Delivery.{Delivery}
-use Rattle.messages.specs.declared.message.Size.{Size}
+use Rattle.messages.specs.Messages.{Sized}
 use Rattle.messages.specs.declared.response.Reply.{Reply}
 use Rattle.messages.specs.declared.response.Reply.TheVariants.{Ack, Nack, Sack}
-use Rattle.messages.specs.declared.response.ResponseAnswer.{ResponseAnswer}
+use Rattle.messages.specs.Responses.{ResponseAnswer}
 
 -- ---- given as octets or numbers
 
@@ -60,7 +60,7 @@ labels_from f = record {
 
 -- ---- given back
 
-unfoldable pub size_octets : Size → List ℕ
+unfoldable pub size_octets : Sized → List ℕ
 size_octets s = s.blocks ∷ s.pad ∷ []
 
 -- the 16 octets of a header
@@ -75,7 +75,7 @@ header_octets (Unconfirmed c fsn) = field_octets 2 c fsn 0 0
 header_octets (Confirmed c s ns fsn) = field_octets 3 c s ns fsn
 
 -- serial, 10 of data
-unfoldable pub block_octets : Block → List ℕ
+unfoldable pub block_octets : BlockRead → List ℕ
 block_octets b = b.serial ∷ b.octets
 
 -- class, type, status, SAP, destination (3), source (3), 8 of flags

@@ -1,15 +1,11 @@
 -- A line in octets: what is written one behind the other, and what is said in it.
 -- Assumes nothing.
 use mathlib.Core.Path.{◌≡◌, refl, ap, ◌∙◌}
-use mathlib.Core.Logic.{◌≢◌}
 use mathlib.Core.List.{List, [], ◌∷◌, ◌++◌}
 use Prim.Native.Nat.{ℕ, ◌+◌, ◌*◌, ◌-◌, ◌/◌, ◌%◌, ◌≤◌}
 use native.Mathlib.Omega.{arith}
 use lib.ListN.{length, take, drop, replicate, length-append, length-replicate}
 use lib.Seq.{take_all}
-use borrow.Author.Tests.{eq-eqb, ne_eqb}
-use Rattle.messages.specs.declared.response.ResponseOctets.{ResponseOctets}
-use Rattle.transactions.specs.Answers.{refused, response, response_said}
 use Rattle.foundation.specs.Octets.{put}
 use Rattle.foundation.proofs.Copying.{Grown, grown_none, grown_put, grown_all}
 use Rattle.foundation.proofs.Filling.{drop-zeros}
@@ -52,17 +48,3 @@ module _ (code : ℕ) (os : List ℕ) (small : length os ≤ 2 * stored_block) w
 
 pub said-line : (store : List ℕ) (a b : Answer) (line : List ℕ) → a ≡ b → line ≡ line_in (answer (said b store)) → line ≡ line_in (answer (said a store))
 said-line store a b line e h = rw e h
-
-module _ (r : ResponseOctets) where
-  pub said-refused : r.number ≢ 0 → response_said r ≡ refused r.number
-  unfolding response_said
-  said-refused h = rw (ne_eqb r.number 0 h)
-
-  module _ (taken : r.number ≡ 0) where
-    pub said-header : r.blocks ≡ 0 → response_said r ≡ response r.header []
-    unfolding response_said
-    said-header h = rw (eq-eqb r.number 0 taken, h)
-
-    pub said_both : length r.block ≡ 12 → r.blocks ≢ 0 → response_said r ≡ response r.header r.block
-    unfolding response_said
-    said_both l h = rw (eq-eqb r.number 0 taken, take_all (12 * r.blocks) r.block (omega arith))

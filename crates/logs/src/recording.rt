@@ -1,7 +1,7 @@
 // One record of a log: what the receiver answers, in a line of a report. A line has 1,027 octets: a code, the length of the contents
 // (2 octets, most significant first), the contents, and zeros.
 ghost use Rattle.std.specs.Prelude.{◌≡◌, true, ◌++◌, ◌+◌, ◌*◌, ◌≤◌, length};
-ghost use Rattle.transactions.specs.Answers.{refused, response_said};
+ghost use Rattle.transactions.specs.Answers.{refused, given_said};
 ghost use Rattle.receiver_state.specs.Receiver.{store_size, receiver_good};
 ghost use Rattle.receiver.specs.Events.{said};
 ghost use Rattle.stored.specs.Stored.{stored_block};
@@ -88,23 +88,17 @@ fn both(header: [u8; 12], block: [u8; 12]) -> [u8; 24]
 }
 
 // The line of a response to an end of attempt.
-fn put_response(line: &mut [u8], r: ResponseOctets)
+fn put_response(line: &mut [u8], given: Result<ResponseOctets, Refusal>)
     requires { length line.old ≡ line_size }
-    ensures { line.new ≡ line_in (answer (response_said r)) }
+    ensures { line.new ≡ line_in (answer (given_said given)) }
 {
-    let number = r.number;
-    if number != 0 {
-        put_refusal(line, number);
-        return;
+    match given {
+        Ok(r) => match r.block {
+            None => put(line, RESPONSE, &r.header),
+            Some(block) => put(line, RESPONSE, &both(r.header, block)),
+        },
+        Err(refusal) => put_refusal(line, refusal.number()),
     }
-    let header = r.header;
-    let block = r.block;
-    let octets = both(header, block);
-    if r.blocks == 0 {
-        put(line, RESPONSE, &octets[..12]);
-        return;
-    }
-    put(line, RESPONSE, &octets);
 }
 
 // ---- records, for a receiver that there can be and a line and a store of their sizes: the receiver after each

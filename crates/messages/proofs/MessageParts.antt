@@ -5,23 +5,29 @@ use mathlib.Core.List.{List, ◌++◌}
 use Prim.Native.Nat.{ℕ, ◌+◌, ◌*◌, ◌-◌, ◌≤◌, ◌<◌}
 use native.Mathlib.Decide.{dec_lt}
 use native.Mathlib.Omega.{arith}
+use lib.Dec.{leb}
 use lib.ListN.{length, take, drop, get_or, replicate, length-append, length-drop, length-replicate}
 use lib.Seq.{length-take-le, take_all, take-append-le, drop-append-le, get_or-take, get_or-drop, ext_get_or}
 use borrow.Author.Tests.{eq-eqb, ne_eqb, lt-ltb, le-ltb, le-leb, lt-leb}
 use Rattle.foundation.specs.Bits.{tabulate}
 use Rattle.foundation.specs.Octets.{over, put}
 use Rattle.foundation.specs.Order.{first_failed}
+use Rattle.foundation.specs.Refusals.{refusal}
+use Rattle.foundation.specs.declared.refusal.Refusal.{Refusal}
+use Rattle.foundation.proofs.Refusals.{ok_zero, ok_same, err_number, err_refusal}
+use Rattle.std.specs.Prelude.{Ok, Err}
 use Rattle.foundation.proofs.Copying.{put_fits, length-put}
 use Rattle.foundation.proofs.Filling.{get_d_padded, drop-zeros}
 use Rattle.foundation.proofs.Runs.{tabulated}
+use Rattle.foundation.proofs.Tests.{either}
 use Rattle.checks.specs.Checks.{message_check, lowest_first}
-use Rattle.packets.specs.Headers.{write_header}
+use Rattle.packets.specs.Headers.{width_number, write_header, header_octets_given}
 use Rattle.packets.specs.Blocks.{write_block}
-use Rattle.messages.specs.Messages.{block_size, check_size, most_octets, blocks_of, pad_of, size_of, padded, laid_out, block_data, block_part_tests, write_message_block, attempt_header, refused_header, full_header, partial_header}
+use Rattle.messages.specs.Messages.{Sized, block_size, check_size, most_octets, blocks_of, pad_of, size_of, size_given, padded, laid_out, block_data, block_part_tests, write_message_block, attempt_header, refused_header, full_header, partial_header}
 use Rattle.messages.specs.Parts.{Ends, padded_header, octets_in}
-use Rattle.packets.specs.declared.block.BlockOctets.{BlockOctets}
 use Rattle.messages.specs.declared.message.Delivery.{Delivery}
 use Rattle.messages.specs.declared.message.Size.{Size}
+use Rattle.packets.proofs.HeaderWriting.{widths_else}
 use Rattle.packets.proofs.BlockWriting.{written}
 use Rattle.messages.proofs.MessageLayout.{few_blocks, filled, length-block_data}
 
@@ -32,16 +38,47 @@ module _ (n : ℕ) where
   unfolding size_of
   size-refused h = rw (lt-leb n most_octets h)
 
-  pub size-given : n ≤ most_octets → (b p : ℕ) → b ≡ blocks_of n → p ≡ pad_of n → record { number = 0; blocks = b; pad = p } ≡ size_of n
+  pub size-accepted : n ≤ most_octets → (b p : ℕ) → b ≡ blocks_of n → p ≡ pad_of n → record { number = 0; blocks = b; pad = p } ≡ size_of n
   unfolding size_of
-  size-given h b p e f = rw (le-leb n most_octets h) (λ i. record { number = 0; blocks = e i; pad = f i })
+  size-accepted h b p e f = rw (le-leb n most_octets h) (λ i. record { number = 0; blocks = e i; pad = f i })
 
-  module _ (s : Size) (e : s ≡ size_of n) (h : n ≤ most_octets) where
+  -- a refusal: the message is too long
+  module _ (r : Refusal) (e : size_given (size_of n) ≡ Err r) where
+    pub too_long : most_octets < n
+    unfolding size_given
+    too_long = go (dec_lt most_octets n)
+      where
+        go : Dec (most_octets < n) → most_octets < n
+        go (yes h) = h
+        go (no h) = absurd (err_number _ _ r e (ap (λ (x : Sized). x.number) (sym (size-accepted (omega arith) _ _ refl refl))))
+
+    pub refusal-16 : r ≡ refusal 16
+    unfolding size_given
+    refusal-16 = sym (err_refusal _ _ r e) ∙ ap (λ (x : Sized). refusal x.number) (sym (size-refused too_long))
+
+  -- an answer: blocks and pad
+  module _ (s : Size) (e : size_given (size_of n) ≡ Ok s) where
+    pub short : n ≤ most_octets
+    unfolding size_given
+    short = go (dec_lt most_octets n)
+      where
+        go : Dec (most_octets < n) → n ≤ most_octets
+        go (yes h) =
+            let z : (size_of n).number ≡ 0 = ok_zero _ _ s e in
+            let k : 16 ≡ (size_of n).number = ap (λ (x : Sized). x.number) (size-refused h) in
+            absurd (omega arith)
+        go (no h) = omega arith
+
+    size-is : record { number = 0; blocks = blocks_of n; pad = pad_of n } ≡ size_of n
+    size-is = size-accepted short _ _ refl refl
+
     pub blocks-given : s.blocks ≡ blocks_of n
-    blocks-given = ap (λ (x : Size). x.blocks) (e ∙ sym (size-given h _ _ refl refl))
+    unfolding size_given
+    blocks-given = ap (λ (x : Size). x.blocks) (sym (ok_same _ _ s e)) ∙ ap (λ (x : Sized). x.blocks) (sym size-is)
 
     pub pad-given : s.pad ≡ pad_of n
-    pad-given = ap (λ (x : Size). x.pad) (e ∙ sym (size-given h _ _ refl refl))
+    unfolding size_given
+    pad-given = ap (λ (x : Size). x.pad) (sym (ok_same _ _ s e)) ∙ ap (λ (x : Sized). x.pad) (sym size-is)
 
 -- ---- headers
 
@@ -58,25 +95,35 @@ module _ (n : ℕ) (d : Delivery) where
   unfolding partial_header
   partial_none count h z = rw (le-leb n most_octets h, eq-eqb count 0 z)
 
-  module _ (s : Size) (e : s ≡ size_of n) (h : n ≤ most_octets) where
+  module _ (s : Size) (e : size_given (size_of n) ≡ Ok s) where
     pub full_is : write_header (padded_header s.pad d 1 s.blocks) ≡ full_header n d
     unfolding full_header attempt_header padded_header
     full_is =
-        let p = pad-given n s e h in
-        let b = blocks-given n s e h in
-        rw (le-leb n most_octets h) (λ i. write_header (padded_header (p i) d 1 (b i)))
+        let p = pad-given n s e in
+        let b = blocks-given n s e in
+        rw (le-leb n most_octets (short n s e)) (λ i. write_header (padded_header (p i) d 1 (b i)))
 
     module _ (count : ℕ) (some : count ≡ 0 → ⊥) where
       pub partial_many : s.blocks < count → refused_header ≡ partial_header n d count
       unfolding partial_header
-      partial_many m = rw (le-leb n most_octets h, ne_eqb count 0 some, lt-leb count (blocks_of n) (omega (arith, blocks-given n s e h)))
+      partial_many m =
+          rw (le-leb n most_octets (short n s e), ne_eqb count 0 some, lt-leb count (blocks_of n) (omega (arith, blocks-given n s e)))
 
       pub partial_is : count ≤ s.blocks → write_header (padded_header s.pad d 0 count) ≡ partial_header n d count
       unfolding partial_header attempt_header padded_header
       partial_is m =
-          let p = pad-given n s e h in
-          rw (le-leb n most_octets h, ne_eqb count 0 some, le-leb count (blocks_of n) (omega (arith, blocks-given n s e h)))
+          let p = pad-given n s e in
+          rw (le-leb n most_octets (short n s e), ne_eqb count 0 some, le-leb count (blocks_of n) (omega (arith, blocks-given n s e)))
           (λ i. write_header (padded_header (p i) d 0 count))
+
+-- its only refusal is 16
+pub full-16 : (n : ℕ) (d : Delivery) (r : Refusal) → header_octets_given (full_header n d) ≡ Err r → r ≡ refusal 16
+unfolding full_header write_header header_octets_given
+full-16 n d r e =
+    let h = attempt_header n d 1 (blocks_of n) in
+    either (leb n most_octets)
+    (λ t. let f = rw t at e in sym (err_refusal (width_number h) _ r f) ∙ ap refusal (widths_else h (err_number (width_number h) _ r f)))
+    (λ t. let f = rw t at e in sym (err_refusal 16 _ r f))
 
 -- ---- octets
 
@@ -149,7 +196,7 @@ module _ (m : List ℕ) where
 
   -- ---- what is written
 
-  block-long : (n : ℕ) → most_octets < length m → record { number = 16; octets = replicate 12 0 } ≡ write_message_block m n
+  pub block-long : (n : ℕ) → most_octets < length m → record { number = 16; octets = replicate 12 0 } ≡ write_message_block m n
   unfolding write_message_block block_part_tests first_failed
   block-long n h = rw (lt-leb (length m) most_octets h)
 
@@ -158,40 +205,31 @@ module _ (m : List ℕ) where
     unfolding write_message_block block_part_tests first_failed
     block_none l = rw (le-leb (length m) most_octets h, le-ltb n (blocks_of (length m)) l)
 
-    block_written : (os : List ℕ) (r : BlockOctets) → n < blocks_of (length m) → os ≡ block_data m n → r ≡ write_block n os → r ≡ write_message_block m n
+    block_written : (os : List ℕ) → n < blocks_of (length m) → os ≡ block_data m n → write_block n os ≡ write_message_block m n
     unfolding write_message_block block_part_tests first_failed
-    block_written os r l e w =
-        w ∙ ap (write_block n) e ∙ sym (written n (block_data m n) (length-block_data m n l) (omega (arith, few_blocks (length m) h)))
+    block_written os l e =
+        ap (write_block n) e ∙ sym (written n (block_data m n) (length-block_data m n l) (omega (arith, few_blocks (length m) h)))
         ∙ rw (le-leb (length m) most_octets h, lt-ltb n (blocks_of (length m)) l)
 
   -- by the size that is given
-  module _ (s : Size) (e : s ≡ size_of (length m)) (n : ℕ) where
+  module _ (s : Size) (e : size_given (size_of (length m)) ≡ Ok s) (n : ℕ) where
+    small : length m ≤ most_octets
+    small = short (length m) s e
+
+    are : s.blocks ≡ blocks_of (length m)
+    are = blocks-given (length m) s e
+
     pub block_refused : s.blocks ≤ n → record { number = 16; octets = replicate 12 0 } ≡ write_message_block m n
-    block_refused l = go (dec_lt most_octets (length m))
-      where
-        go : Dec (most_octets < length m) → record { number = 16; octets = replicate 12 0 } ≡ write_message_block m n
-        go (yes h) = block-long n h
-        go (no h) = let k : length m ≤ most_octets = omega arith in block_none n k (omega (arith, blocks-given (length m) s e k))
+    block_refused l = block_none n small (omega (arith, are))
 
     module _ (l : n < s.blocks) where
-      short : length m ≤ most_octets
-      short = go (dec_lt most_octets (length m))
-        where
-          go : Dec (most_octets < length m) → length m ≤ most_octets
-          go (yes h) = let z : s.blocks ≡ 0 = ap (λ (x : Size). x.blocks) (e ∙ sym (size-refused (length m) h)) in absurd (omega arith)
-          go (no h) = omega arith
-
-      blocks_are : s.blocks ≡ blocks_of (length m)
-      blocks_are = blocks-given (length m) s e short
-
       pub block-ends : Ends m (block_size * s.blocks - check_size)
-      block-ends = ends s.blocks blocks_are short
+      block-ends = ends s.blocks are small
 
-      module _ (os : List ℕ) (o : os ≡ octets_in m n) (r : BlockOctets) where
-        pub inner_written : n + 1 < s.blocks → r ≡ write_block n os → r ≡ write_message_block m n
-        inner_written k = block_written n short os r (omega (arith, blocks_are)) (o ∙ inner_block n (omega (arith, blocks_are)))
+      module _ (os : List ℕ) (o : os ≡ octets_in m n) where
+        pub inner_written : n + 1 < s.blocks → write_block n os ≡ write_message_block m n
+        inner_written k = block_written n small os (omega (arith, are)) (o ∙ inner_block n (omega (arith, are)))
 
         pub last_written : s.blocks ≤ n + 1 → (check whole : List ℕ) → check ≡ lowest_first (message_check (padded m))
-            → whole ≡ put os (block_size - check_size) check → r ≡ write_block n whole → r ≡ write_message_block m n
-        last_written k check whole c p =
-            block_written n short whole r (omega (arith, blocks_are)) (p ∙ rw (o, c) (last_block n (omega (arith, blocks_are))))
+            → whole ≡ put os (block_size - check_size) check → write_block n whole ≡ write_message_block m n
+        last_written k check whole c p = block_written n small whole (omega (arith, are)) (p ∙ rw (o, c) (last_block n (omega (arith, are))))

@@ -10,23 +10,26 @@ use lib.Dec.{eqb}
 use lib.ListN.{length, take, get_or, replicate}
 use lib.Seq.{length-take-le}
 use borrow.Author.Tests.{eqb-true, eqb-false, eq-eqb, ne_eqb}
+use Rattle.std.specs.Prelude.{Option, None, Some, Result, Ok, Err}
 use Rattle.foundation.specs.Octets.{put}
+use Rattle.foundation.specs.Order.{first_failed}
+use Rattle.foundation.specs.Refusals.{refusal, outcome}
+use Rattle.foundation.specs.declared.refusal.Refusal.{Refusal}
+use Rattle.foundation.proofs.Refusals.{ok_zero, ok_same, err_number, err_refusal, err_any}
 use Rattle.foundation.proofs.Copying.{put_all, put_both}
 use Rattle.checks.specs.Checks.{message_check, lowest_first, header_good, message_good}
-use Rattle.packets.specs.Headers.{header_mask, part, format_of, common_of, header_of, known_format, read_header, written_header, width_number, write_header}
-use Rattle.messages.specs.Responses.{reply_code, response_header, sack_data, response_data, write_response, is_sack, refused_response, read_response}
+use Rattle.packets.specs.Headers.{header_mask, part, format_of, common_of, header_of, known_format, HeaderAnswer, Accepted, Refused, header_tests, read_header, header_given, written_header, width_number, write_header, header_octets_given}
+use Rattle.messages.specs.Responses.{reply_code, response_header, sack_data, response_data, write_response, response_given, is_sack, ResponseAnswer, refused_response, read_response, fields_given}
 use Rattle.messages.specs.ResponseClaims.{GoodHeader, ResponseRow, header-size, header-check, header-format, block_size_is, block-check, header_alone, header_and_block}
-use Rattle.messages.specs.Parts.{answer_with, answer_beside, response_by, answer_after}
+use Rattle.messages.specs.Parts.{block_given, answer_with, answer_beside, response_by, answer_after}
 use Rattle.packets.specs.declared.header.Common.{Common}
 use Rattle.packets.specs.declared.header.Header.{Header}
 use Rattle.packets.specs.declared.header.Header.TheVariants.{Response, Unconfirmed, Confirmed}
-use Rattle.packets.specs.declared.header.HeaderAnswer.{HeaderAnswer}
-use Rattle.packets.specs.declared.header.HeaderAnswer.TheVariants.{Accepted, Refused}
-use Rattle.packets.specs.declared.header.HeaderOctets.{HeaderOctets}
 use Rattle.messages.specs.declared.message.Delivery.{Delivery}
 use Rattle.messages.specs.declared.response.Reply.{Reply}
-use Rattle.messages.specs.declared.response.ResponseAnswer.{ResponseAnswer}
-use Rattle.packets.proofs.HeaderReading.{size-refused, check-refused, format-refused, accepted, known-format, format_1}
+use Rattle.messages.specs.declared.response.ResponseOctets.{ResponseOctets}
+use Rattle.packets.proofs.HeaderWriting.{widths_else}
+use Rattle.packets.proofs.HeaderReading.{given_is, size-refused, check-refused, format-refused, accepted, known-format, format_1}
 use Rattle.messages.proofs.ResponseReading.{outcome_number, number_outcome, read-refused, read_accepted}
 
 -- ---- the data block of a SACK
@@ -58,22 +61,28 @@ pub header_is : (r : Reply) (d : Delivery) (count class kind : ℕ) → count �
 unfolding response_header
 header_is r d count class kind e f g = λ i. with d (e i) (f i) (g i)
 
-module _ (r : Reply) (d : Delivery) (flags : List ℕ) (w : HeaderOctets) (e : w ≡ write_header (response_header r d)) where
-  number_is : w.number ≡ width_number (response_header r d)
-  unfolding write_header
-  number_is = ap (λ (x : HeaderOctets). x.number) e
+-- what is given, by what is given for the header
+module _ (r : Reply) (d : Delivery) (flags : List ℕ) where
+  pub write_refused : (x : Refusal) → header_octets_given (write_header (response_header r d)) ≡ Err x → Err x ≡ response_given (write_response r d flags)
+  unfolding header_octets_given write_header response_given write_response outcome
+  write_refused x e =
+      let h = response_header r d in
+      let n = err_number (width_number h) _ x e in
+      rw (ne_eqb (width_number h) 0 n) (ap Err (sym (err_refusal (width_number h) _ x e) ∙ ap refusal (widths_else h n)))
 
-  pub write_refused : w.number ≢ 0 → record { number = 16; header = replicate 12 0; blocks = 0; block = replicate 12 0 } ≡ write_response r d flags
-  unfolding write_response
-  write_refused n = rw (ne_eqb (width_number (response_header r d)) 0 (λ z. n (number_is ∙ z)))
-
-  pub write_done : (count : ℕ) (block : List ℕ) → w.number ≡ 0 → count ≡ (reply_code r).2 → block ≡ response_data r flags
-      → record { number = 0; header = w.octets; blocks = count; block = block } ≡ write_response r d flags
-  unfolding write_response write_header
-  write_done count block n c b =
-      let z : width_number (response_header r d) ≡ 0 = sym number_is ∙ n in
-      let o : w.octets ≡ written_header (response_header r d) = ap (λ (x : HeaderOctets). x.octets) e ∙ rw z in
-      rw z (λ i. record { number = 0; header = o i; blocks = c i; block = b i })
+  pub write_done : (header : List ℕ) (block : Option (List ℕ)) → header_octets_given (write_header (response_header r d)) ≡ Ok header → block ≡ block_given r flags
+      → Ok (record { header = header; block = block }) ≡ response_given (write_response r d flags)
+  unfolding header_octets_given write_header response_given write_response outcome block_given response_data
+  write_done header block e b =
+      let h = response_header r d in
+      let z = ok_zero (width_number h) _ header e in
+      let o : header ≡ written_header h = sym (ok_same (width_number h) _ header e) ∙ rw z in
+      rw z ((λ i. Ok (record { header = o i; block = b i })) ∙ go (eqb (reply_code r).2 0))
+    where
+      go : (t : Bool) → ◌≡◌ {A = Result ResponseOctets Refusal} (Ok (record { header = written_header (response_header r d); block = cond t None (Some (sack_data flags)) }))
+          (Ok (record { header = written_header (response_header r d); block = cond t None (Some (cond t (replicate 12 0) (sack_data flags))) }))
+      go true = refl
+      go false = refl
 
 -- ---- what is answered
 
@@ -153,3 +162,20 @@ module _ (h b : List ℕ) where
       go (header_alone g s) = after-good g ∙ sym (beside_alone (common_of h) _ _ _ b _ refl (other_class s)) ∙ fields_is (replicate 8 0) (header_alone g s) (rw s)
       go (header_and_block g s e f) =
           after-good g ∙ sym (beside_flags (common_of h) _ _ _ b (sack_class s) _ (take 8 b) refl refl e f) ∙ fields_is (take 8 b) (header_and_block g s e f) (rw s)
+
+  -- what is given, by what is given for the header
+  pub read_refused : (x : Refusal) → header_given (read_header h) ≡ Err x → Err x ≡ fields_given (read_response h b)
+  unfolding read_header answer_after fields_given
+  read_refused x e =
+      let n : ℕ = first_failed (header_tests h) in
+      let f = sym (given_is h) ∙ e in
+      sym (err_any n (header_of h) _ x f)
+      ∙ ap fields_given (sym (ap (λ (t : Bool). answer_after (cond t (Accepted (header_of h)) (Refused n)) b) (ne_eqb n 0 (err_number n (header_of h) x f))) ∙ after_is)
+
+  pub read_by : (k : Header) → header_given (read_header h) ≡ Ok k → response_by k b ≡ read_response h b
+  unfolding read_header answer_after
+  read_by k e =
+      let n : ℕ = first_failed (header_tests h) in
+      let f = sym (given_is h) ∙ e in
+      ap (λ (x : Header). response_by x b) (sym (ok_same n (header_of h) k f))
+      ∙ sym (ap (λ (t : Bool). answer_after (cond t (Accepted (header_of h)) (Refused n)) b) (eq-eqb n 0 (ok_zero n (header_of h) k f))) ∙ after_is

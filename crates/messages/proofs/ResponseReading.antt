@@ -23,8 +23,8 @@ use Rattle.messages.specs.Parts.{answer_with}
 use Rattle.messages.specs.declared.message.Delivery.{Delivery}
 use Rattle.messages.specs.declared.response.Reply.{Reply}
 use Rattle.messages.specs.declared.response.Reply.TheVariants.{Ack, Nack, Sack}
-use Rattle.messages.specs.declared.response.ResponseAnswer.{ResponseAnswer}
-use Rattle.messages.specs.declared.response.ResponseOctets.{ResponseOctets}
+use Rattle.messages.specs.Responses.{ResponseAnswer}
+use Rattle.messages.specs.Responses.{ResponseWritten}
 use Rattle.packets.proofs.HeaderWriting.{fits}
 use Rattle.packets.proofs.HeaderBack.{written-length, written-good, written-format, written_last, written_common, common_fits, last_fits}
 
@@ -237,5 +237,5 @@ answer_back r d flags n none = go (ℕ_discrete (width_number (response_header r
     go : Dec (width_number (response_header r d) ≡ 0) → read_response (write_response r d flags).header (write_response r d flags).block ≡ answer_of r d flags
     go (yes e) = response_back r d flags (header-within r d e) n
     go (no e) =
-        let f : (write_response r d flags).number ≡ 16 = ap (λ (x : ResponseOctets). x.number) (response_unwritten r d flags e) in
+        let f : (write_response r d flags).number ≡ 16 = ap (λ (x : ResponseWritten). x.number) (response_unwritten r d flags e) in
         absurd (omega arith)

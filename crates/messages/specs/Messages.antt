@@ -1,16 +1,24 @@
 -- A message of L octets takes B = ceil((L + 4) / 10) blocks, numbered from 0, with a pad of 10 B - 4 - L zero octets and a message check.
 -- Assumes nothing.
-use Rattle.std.specs.Prelude.{Bool, cond, List, [], ◌∷◌, ◌++◌, ℕ, zero, suc, ◌+◌, ◌*◌, ◌-◌, ◌/◌, eqb, leb, ltb, length, take, drop, replicate}
+use Rattle.std.specs.Prelude.{Bool, cond, Result, List, [], ◌∷◌, ◌++◌, ℕ, zero, suc, ◌+◌, ◌*◌, ◌-◌, ◌/◌, eqb, leb, ltb, length, take, drop, replicate}
 use Rattle.foundation.specs.Order.{first_failed}
+use Rattle.foundation.specs.Refusals.{outcome}
+use Rattle.foundation.specs.declared.refusal.Refusal.{Refusal}
 use Rattle.checks.specs.Checks.{message_check, lowest_first}
 use Rattle.packets.specs.Headers.{write_header}
 use Rattle.packets.specs.Blocks.{written_block}
 use Rattle.packets.specs.declared.header.Header.{Header}
 use Rattle.packets.specs.declared.header.Header.TheVariants.{Confirmed}
-use Rattle.packets.specs.declared.header.HeaderOctets.{HeaderOctets}
-use Rattle.packets.specs.declared.block.BlockOctets.{BlockOctets}
+use Rattle.packets.specs.Headers.{HeaderOctets}
+use Rattle.packets.specs.Blocks.{BlockOctets}
 use Rattle.messages.specs.declared.message.Delivery.{Delivery}
 use Rattle.messages.specs.declared.message.Size.{Size}
+
+-- blocks and pad of a message, with a number, 0 for none
+pub record Sized : Type 0 where
+  pub number : ℕ
+  pub blocks : ℕ
+  pub pad : ℕ
 
 -- data octets of a block, octets of a message check, and the most blocks that a message takes
 abbrev pub block_size : ℕ
@@ -33,8 +41,12 @@ unfoldable pub pad_of : ℕ → ℕ
 pad_of n = block_size * blocks_of n - check_size - n
 
 -- zeros beside the number of a refusal
-unfoldable pub size_of : ℕ → Size
+unfoldable pub size_of : ℕ → Sized
 size_of n = cond (leb n most_octets) (record { number = 0; blocks = blocks_of n; pad = pad_of n }) (record { number = 16; blocks = 0; pad = 0 })
+
+-- what is given for a message's length
+unfoldable pub size_given : Sized → Result Size Refusal
+size_given s = outcome s.number (record { blocks = s.blocks; pad = s.pad })
 
 -- the message and its pad, and these with their check: the octets of its blocks in order
 unfoldable pub padded : List ℕ → List ℕ

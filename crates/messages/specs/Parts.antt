@@ -1,17 +1,17 @@
 -- What private functions require and give: nothing that a reader has to believe.
 -- Assumes nothing.
-use Rattle.std.specs.Prelude.{◌≡◌, cond, List, ℕ, ◌+◌, ◌*◌, ◌≤◌, eqb, length, get_or, take, replicate}
+use Rattle.std.specs.Prelude.{◌≡◌, cond, Option, None, Some, List, ℕ, ◌+◌, ◌*◌, ◌≤◌, eqb, length, get_or, take, replicate}
 use Rattle.foundation.specs.Bits.{tabulate}
 use Rattle.checks.specs.Checks.{message_good}
 use Rattle.packets.specs.declared.header.Common.{Common}
 use Rattle.packets.specs.declared.header.Header.{Header}
 use Rattle.packets.specs.declared.header.Header.TheVariants.{Response, Unconfirmed, Confirmed}
-use Rattle.packets.specs.declared.header.HeaderAnswer.{HeaderAnswer}
-use Rattle.packets.specs.declared.header.HeaderAnswer.TheVariants.{Accepted, Refused}
+use Rattle.packets.specs.Headers.{HeaderAnswer, Accepted, Refused}
 use Rattle.messages.specs.Messages.{block_size, most_octets, confirmed_fsn, padded}
-use Rattle.messages.specs.Responses.{refused_response}
+use Rattle.messages.specs.Responses.{ResponseAnswer, reply_code, sack_data, refused_response}
 use Rattle.messages.specs.declared.message.Delivery.{Delivery}
-use Rattle.messages.specs.declared.response.ResponseAnswer.{ResponseAnswer}
+use Rattle.messages.specs.declared.response.Reply.{Reply}
+use Rattle.messages.specs.declared.response.ResponseFields.{ResponseFields}
 
 -- ---- messages
 
@@ -38,6 +38,15 @@ abbrev pub octets_in : List ℕ → ℕ → List ℕ
 octets_in m n = tabulate block_size (λ k. get_or m (block_size * n + k) 0)
 
 -- ---- responses
+
+-- the data block of a SACK; the others have none
+unfoldable pub block_given : Reply → List ℕ → Option (List ℕ)
+block_given r flags = cond (eqb (reply_code r).2 0) None (Some (sack_data flags))
+
+-- the fields and the flags
+unfoldable pub fields_with : Common → ℕ → ℕ → ℕ → List ℕ → ResponseFields
+fields_with c class kind status flags =
+    record { class = class; kind = kind; status = status; sap = c.sap; destination = c.destination; source = c.source; flags = flags }
 
 -- what is answered: by the fields and the flags
 unfoldable pub answer_with : Common → ℕ → ℕ → ℕ → List ℕ → ResponseAnswer

@@ -4,12 +4,10 @@ use Rattle.std.specs.Prelude.{◌≡◌, true, false, List, ◌↔◌, ◌≢◌
 use Rattle.checks.specs.Checks.{header_good, message_good}
 use Rattle.packets.specs.Headers.{header_mask, format_of, width_number}
 use Rattle.messages.specs.MessageClaims.{Within}
-use Rattle.messages.specs.Responses.{reply_code, response_header, is_sack, write_response, refused_response, read_response}
+use Rattle.messages.specs.Responses.{ResponseWritten, ResponseAnswer, reply_code, response_header, is_sack, write_response, refused_response, read_response}
 use Rattle.messages.specs.declared.message.Delivery.{Delivery}
 use Rattle.messages.specs.declared.response.Reply.{Reply}
 use Rattle.messages.specs.declared.response.Reply.TheVariants.{Ack, Nack, Sack}
-use Rattle.messages.specs.declared.response.ResponseAnswer.{ResponseAnswer}
-use Rattle.messages.specs.declared.response.ResponseOctets.{ResponseOctets}
 
 -- the flags that are read of a response written: only a SACK has any
 unfoldable pub flags_of : Reply → List ℕ → List ℕ
@@ -31,7 +29,7 @@ answer_of r d flags = record {
 }
 
 -- an answer of the writer without a number reads back
-abbrev pub ResponseReadsBack : Reply → Delivery → List ℕ → ResponseOctets → Type 0
+abbrev pub ResponseReadsBack : Reply → Delivery → List ℕ → ResponseWritten → Type 0
 ResponseReadsBack reply d flags r = r.number ≡ 0 → read_response r.header r.block ≡ answer_of reply d flags
 
 -- octets that are the header of a response: 12 of them, with a good check, of format 1

@@ -1,7 +1,10 @@
 -- A response: a header of format 1, and for a SACK one data block of 12 octets: 8 octets of flags and a message check over them.
 -- Assumes nothing.
-use Rattle.std.specs.Prelude.{Bool, true, cond, List, [], ◌∷◌, ◌++◌, ℕ, eqb, length, get_or, take, replicate}
+use Rattle.std.specs.Prelude.{Bool, true, cond, None, Some, Result, List, [], ◌∷◌, ◌++◌, ℕ, eqb, length, get_or, take, replicate}
 use Rattle.foundation.specs.Order.{first_failed}
+use Rattle.foundation.specs.Refusals.{outcome}
+use Rattle.foundation.specs.declared.refusal.Refusal.{Refusal}
+use Rattle.addresses.specs.declared.RadioAddress.{RadioAddress}
 use Rattle.checks.specs.Checks.{message_check, lowest_first, header_good, message_good}
 use Rattle.packets.specs.Headers.{header_mask, part, format_of, common_of, written_header, width_number}
 use Rattle.packets.specs.declared.header.Header.{Header}
@@ -10,7 +13,25 @@ use Rattle.messages.specs.declared.message.Delivery.{Delivery}
 use Rattle.messages.specs.declared.response.Reply.{Reply}
 use Rattle.messages.specs.declared.response.Reply.TheVariants.{Ack, Nack, Sack}
 use Rattle.messages.specs.declared.response.ResponseOctets.{ResponseOctets}
-use Rattle.messages.specs.declared.response.ResponseAnswer.{ResponseAnswer}
+use Rattle.messages.specs.declared.response.ResponseFields.{ResponseFields}
+
+-- what is written: a number, 0 for none, the header, how many data blocks follow it (0 or 1) and the data block
+pub record ResponseWritten : Type 0 where
+  pub number : ℕ
+  pub header : List ℕ
+  pub blocks : ℕ
+  pub block : List ℕ
+
+-- what is read: a number, 0 for none, the fields and the flags of a SACK
+pub record ResponseAnswer : Type 0 where
+  pub number : ℕ
+  pub class : ℕ
+  pub kind : ℕ
+  pub status : ℕ
+  pub sap : ℕ
+  pub destination : RadioAddress
+  pub source : RadioAddress
+  pub flags : List ℕ
 
 -- class, type and block count: ACK 00 001, NACK 01 001, SACK 10 000 with one data block
 unfoldable pub reply_code : Reply → ℕ × ℕ × ℕ
@@ -34,11 +55,15 @@ unfoldable pub response_data : Reply → List ℕ → List ℕ
 response_data r flags = cond (eqb (reply_code r).2 0) (replicate 12 0) (sack_data flags)
 
 -- what the writer answers: the header, how many data blocks follow, and the data block; zeros beside the number of a refusal
-unfoldable pub write_response : Reply → Delivery → List ℕ → ResponseOctets
+unfoldable pub write_response : Reply → Delivery → List ℕ → ResponseWritten
 write_response r d flags =
     cond (eqb (width_number (response_header r d)) 0)
     (record { number = 0; header = written_header (response_header r d); blocks = (reply_code r).2; block = response_data r flags })
     (record { number = 16; header = replicate 12 0; blocks = 0; block = replicate 12 0 })
+
+-- what the writer gives
+unfoldable pub response_given : ResponseWritten → Result ResponseOctets Refusal
+response_given w = outcome w.number (record { header = w.header; block = cond (eqb w.blocks 0) None (Some w.block) })
 
 -- ---- reading
 
@@ -73,3 +98,9 @@ read_response h b =
       flags = cond (is_sack h) (take 8 b) (replicate 8 0);
     })
     (refused_response (response_number h b))
+
+-- what the reader gives
+unfoldable pub fields_given : ResponseAnswer → Result ResponseFields Refusal
+fields_given a =
+    outcome a.number
+    (record { class = a.class; kind = a.kind; status = a.status; sap = a.sap; destination = a.destination; source = a.source; flags = a.flags })

@@ -1,13 +1,15 @@
 // A message in blocks, and the headers before them.
 ghost use Rattle.std.specs.Prelude.{◌≡◌};
 ghost use Rattle.checks.specs.Checks.{message_check, lowest_first};
-ghost use Rattle.packets.specs.Headers.{write_header};
-ghost use Rattle.messages.specs.Messages.{size_of, padded, write_message_block, refused_header, full_header, partial_header};
+ghost use Rattle.packets.specs.Blocks.{block_octets_given};
+ghost use Rattle.packets.specs.Headers.{write_header, header_octets_given};
+ghost use Rattle.messages.specs.Messages.{size_of, size_given, padded, write_message_block, full_header, partial_header};
 ghost use Rattle.messages.specs.Parts.{Ends, padded_header, octets_in};
 
 use addresses::RadioAddress;
-use packets::block::BlockOctets;
-use packets::header::{Common, Header, HeaderOctets};
+use foundation::refusal::Refusal;
+use packets::header::{Common, Header};
+use std::array;
 
 // Data octets of a block, octets of a message check, the most blocks of a message and the most octets.
 pub const BLOCK: usize = 10;
@@ -22,7 +24,7 @@ pub const MOST_OCTETS: usize = BLOCK * MOST_BLOCKS - CHECK;
 const FSN: u8 = 8;
 
 // Who sends what to whom: SAP, N(S), destination and source.
-#[derive(Clone, Copy)]
+#[derive(Clone, Copy, Debug, PartialEq, Eq)]
 pub struct Delivery {
     pub sap: u8,
     pub ns: u8,
@@ -30,58 +32,41 @@ pub struct Delivery {
     pub source: RadioAddress,
 }
 
-// Number of blocks and pad of a message, or the number of the refusal and zeros.
-#[derive(Clone, Copy)]
+// Number of blocks and pad of a message.
+#[derive(Clone, Copy, Debug, PartialEq, Eq)]
 pub struct Size {
-    pub number: u8,
     pub blocks: u8,
     pub pad: u8,
 }
 
 // Blocks and pad of a message of this many octets.
-pub fn size_of(octets: usize) -> Size
-    ensures { result ≡ size_of octets }
+pub fn size_of(octets: usize) -> Result<Size, Refusal>
+    ensures { result ≡ size_given (size_of octets) }
 {
     if MOST_OCTETS < octets {
-        return Size {
-            number: 16,
-            blocks: 0,
-            pad: 0,
-        };
+        return Err(Refusal::Unwritable);
     }
     let filled = octets + CHECK;
     let blocks = (filled + (BLOCK - 1)) / BLOCK;
-    Size {
-        number: 0,
+    Ok(Size {
         blocks: blocks as u8,
         pad: (BLOCK * blocks - filled) as u8,
-    }
+    })
 }
 
 // ---- headers
 
-fn refused_header() -> HeaderOctets
-    ensures { result ≡ refused_header }
-{
-    HeaderOctets {
-        number: 16,
-        octets: [0u8; 12],
-    }
-}
-
 // The header of an attempt with this pad, flag and count.
-fn attempt(pad: u8, d: Delivery, full: u8, count: u8) -> HeaderOctets
-    ensures { result ≡ write_header (padded_header pad d full count) }
+fn attempt(pad: u8, d: Delivery, full: u8, count: u8) -> Result<[u8; 12], Refusal>
+    ensures { result ≡ header_octets_given (write_header (padded_header pad d full count)) }
 {
-    let destination = d.destination;
-    let source = d.source;
     let c = Common {
         group: 0,
         requested: 1,
         pad,
         sap: d.sap,
-        destination,
-        source,
+        destination: d.destination,
+        source: d.source,
         full,
         blocks: count,
     };
@@ -89,29 +74,23 @@ fn attempt(pad: u8, d: Delivery, full: u8, count: u8) -> HeaderOctets
 }
 
 // The header before a whole message.
-pub fn full_header(octets: usize, d: Delivery) -> HeaderOctets
-    ensures { result ≡ full_header octets d }
+pub fn full_header(octets: usize, d: Delivery) -> Result<[u8; 12], Refusal>
+    ensures { result ≡ header_octets_given (full_header octets d) }
 {
-    if MOST_OCTETS < octets {
-        return refused_header();
-    }
-    let size = size_of(octets);
+    let size = size_of(octets)?;
     attempt(size.pad, d, 1, size.blocks)
 }
 
 // The header before a repeat attempt with `count` of the message's blocks.
-pub fn partial_header(octets: usize, d: Delivery, count: u8) -> HeaderOctets
-    ensures { result ≡ partial_header octets d count }
+pub fn partial_header(octets: usize, d: Delivery, count: u8) -> Result<[u8; 12], Refusal>
+    ensures { result ≡ header_octets_given (partial_header octets d count) }
 {
-    if MOST_OCTETS < octets {
-        return refused_header();
-    }
+    let size = size_of(octets)?;
     if count == 0 {
-        return refused_header();
+        return Err(Refusal::Unwritable);
     }
-    let size = size_of(octets);
     if size.blocks < count {
-        return refused_header();
+        return Err(Refusal::Unwritable);
     }
     attempt(size.pad, d, 0, count)
 }
@@ -122,13 +101,7 @@ pub fn partial_header(octets: usize, d: Delivery, count: u8) -> HeaderOctets
 fn data_of(message: &[u8], n: u8) -> [u8; 10]
     ensures { result ≡ octets_in message.now n }
 {
-    let mut os = [0u8; BLOCK];
-    let mut i: usize = 0;
-    while i < BLOCK {
-        os[i] = foundation::octets::at(message, BLOCK * (n as usize) + i);
-        i += 1;
-    }
-    os
+    array::from_fn(|i| foundation::octets::at(message, BLOCK * (n as usize) + i))
 }
 
 // The check of the padded message.
@@ -142,17 +115,13 @@ fn check_of(message: &[u8], end: usize) -> [u8; 4]
 }
 
 // Block n of a message. Only the last one has octets of the message check.
-pub fn block(message: &[u8], n: usize) -> BlockOctets
-    ensures { result ≡ write_message_block message.now n }
+pub fn block(message: &[u8], n: usize) -> Result<[u8; 12], Refusal>
+    ensures { result ≡ block_octets_given (write_message_block message.now n) }
 {
-    let size = size_of(message.len());
+    let size = size_of(message.len())?;
     let blocks = size.blocks as usize;
-    // none if the message is too long
     if blocks <= n {
-        return BlockOctets {
-            number: 16,
-            octets: [0u8; 12],
-        };
+        return Err(Refusal::Unwritable);
     }
     let serial = n as u8;
     let mut os = data_of(message, serial);

@@ -1,37 +1,35 @@
 // Responses to an attempt.
 ghost use Rattle.std.specs.Prelude.{◌≡◌, length, take};
-ghost use Rattle.messages.specs.Responses.{reply_code, response_header, sack_data, response_data, write_response, refused_response, read_response};
+ghost use Rattle.messages.specs.Responses.{reply_code, response_header, sack_data, write_response, response_given, read_response, fields_given};
 ghost use Rattle.messages.specs.ResponseClaims.{ResponseReadsBack};
-ghost use Rattle.messages.specs.Parts.{answer_with, answer_beside, response_by};
+ghost use Rattle.messages.specs.Parts.{block_given, fields_with, answer_beside, response_by};
 
 use crate::message::Delivery;
 use addresses::RadioAddress;
-use packets::header::{Common, Header, HeaderAnswer};
+use foundation::refusal::Refusal;
+use packets::header::{Common, Header};
 
 // Class of a SACK.
 const SACK: u8 = 2;
 
 // ACK, NACK or SACK.
-#[derive(Clone, Copy)]
+#[derive(Clone, Copy, Debug, PartialEq, Eq)]
 pub enum Reply {
     Ack,
     Nack,
     Sack,
 }
 
-// What is written: number 0, the header, how many data blocks follow it (0 or 1) and the data block; or the number of the refusal and zeros.
-#[derive(Clone, Copy)]
+// A response's header, and the data block of a SACK.
+#[derive(Clone, Copy, Debug, PartialEq, Eq)]
 pub struct ResponseOctets {
-    pub number: u8,
     pub header: [u8; 12],
-    pub blocks: u8,
-    pub block: [u8; 12],
+    pub block: Option<[u8; 12]>,
 }
 
-// What is read: number 0, the fields and the flags of a SACK, or the number of the refusal and zeros.
-#[derive(Clone, Copy)]
-pub struct ResponseAnswer {
-    pub number: u8,
+// The fields of a response, and the flags of a SACK.
+#[derive(Clone, Copy, Debug, PartialEq, Eq)]
+pub struct ResponseFields {
     pub class: u8,
     pub kind: u8,
     pub status: u8,
@@ -58,15 +56,13 @@ fn count_of(reply: Reply) -> u8
 fn header_of(reply: Reply, d: Delivery) -> Header
     ensures { result ≡ response_header reply d }
 {
-    let destination = d.destination;
-    let source = d.source;
     let c = Common {
         group: 0,
         requested: 0,
         pad: 0,
         sap: d.sap,
-        destination,
-        source,
+        destination: d.destination,
+        source: d.source,
         full: 0,
         blocks: count_of(reply),
     };
@@ -88,70 +84,38 @@ fn sack_data(flags: [u8; 8]) -> [u8; 12]
     os
 }
 
-// The data block, or zeros.
-fn data_of(reply: Reply, flags: [u8; 8]) -> [u8; 12]
-    ensures { result ≡ response_data reply flags }
+// The data block, if there is one.
+fn block_of(reply: Reply, flags: [u8; 8]) -> Option<[u8; 12]>
+    ensures { result ≡ block_given reply flags }
 {
     match reply {
-        Reply::Ack => [0u8; 12],
-        Reply::Nack => [0u8; 12],
-        Reply::Sack => sack_data(flags),
+        Reply::Ack => None,
+        Reply::Nack => None,
+        Reply::Sack => Some(sack_data(flags)),
     }
 }
 
 // Writes a response, which reads back; the flags are those of a SACK.
-pub fn write(reply: Reply, d: Delivery, flags: [u8; 8]) -> ResponseOctets
-    ensures { (result ≡ write_response reply d flags) × ResponseReadsBack reply d flags result }
+pub fn write(reply: Reply, d: Delivery, flags: [u8; 8]) -> Result<ResponseOctets, Refusal>
+    ensures { (result ≡ response_given (write_response reply d flags)) × ResponseReadsBack reply d flags (write_response reply d flags) }
 {
-    let written = packets::header::write(header_of(reply, d));
-    if written.number != 0 {
-        return ResponseOctets {
-            number: 16,
-            header: [0u8; 12],
-            blocks: 0,
-            block: [0u8; 12],
-        };
-    }
-    let header = written.octets;
-    let block = data_of(reply, flags);
-    ResponseOctets {
-        number: 0,
-        header,
-        blocks: count_of(reply),
-        block,
-    }
+    let header = packets::header::write(header_of(reply, d))?;
+    let block = block_of(reply, flags);
+    Ok(ResponseOctets { header, block })
 }
 
 // ---- reading
 
-fn refused(number: u8) -> ResponseAnswer
-    ensures { result ≡ refused_response number }
+fn fields_with(c: Common, class: u8, kind: u8, status: u8, flags: [u8; 8]) -> ResponseFields
+    ensures { result ≡ fields_with c class kind status flags }
 {
-    ResponseAnswer {
-        number,
-        class: 0,
-        kind: 0,
-        status: 0,
-        sap: 0,
-        destination: RadioAddress(0),
-        source: RadioAddress(0),
-        flags: [0u8; 8],
-    }
-}
-
-fn answer_with(c: Common, class: u8, kind: u8, status: u8, flags: [u8; 8]) -> ResponseAnswer
-    ensures { result ≡ answer_with c class kind status flags }
-{
-    let destination = c.destination;
-    let source = c.source;
-    ResponseAnswer {
-        number: 0,
+    ResponseFields {
         class,
         kind,
         status,
         sap: c.sap,
-        destination,
-        source,
+        destination: c.destination,
+        source: c.source,
         flags,
     }
 }
@@ -166,39 +130,35 @@ fn flags_of(block: &[u8]) -> [u8; 8]
     flags
 }
 
-// The answer by the fields of a response's header; only the data block of a SACK is looked at.
-fn answer_beside(c: Common, class: u8, kind: u8, status: u8, block: &[u8]) -> ResponseAnswer
-    ensures { result ≡ answer_beside c class kind status block.now }
+// What the fields of a response's header and its data block say; only the data block of a SACK is looked at.
+fn read_beside(
+    c: Common,
+    class: u8,
+    kind: u8,
+    status: u8,
+    block: &[u8],
+) -> Result<ResponseFields, Refusal>
+    ensures { result ≡ fields_given (answer_beside c class kind status block.now) }
 {
     if class != SACK {
-        return answer_with(c, class, kind, status, [0u8; 8]);
+        return Ok(fields_with(c, class, kind, status, [0u8; 8]));
     }
     if block.len() != 12 {
-        return refused(1);
+        return Err(Refusal::Size);
     }
     if !checks::message_good(block) {
-        return refused(13);
+        return Err(Refusal::BlockCheck);
     }
-    answer_with(c, class, kind, status, flags_of(block))
-}
-
-// The answer by a header that is read.
-fn answer_to(h: Header, block: &[u8]) -> ResponseAnswer
-    ensures { result ≡ response_by h block.now }
-{
-    match h {
-        Header::Response(c, class, kind, status) => answer_beside(c, class, kind, status, block),
-        Header::Unconfirmed(_, _) => refused(9),
-        Header::Confirmed(_, _, _, _) => refused(9),
-    }
+    Ok(fields_with(c, class, kind, status, flags_of(block)))
 }
 
 // Reads a response: its header, and for a SACK its data block.
-pub fn read(header: &[u8], block: &[u8]) -> ResponseAnswer
-    ensures { result ≡ read_response header.now block.now }
+pub fn read(header: &[u8], block: &[u8]) -> Result<ResponseFields, Refusal>
+    ensures { result ≡ fields_given (read_response header.now block.now) }
 {
-    match packets::header::read(header) {
-        HeaderAnswer::Accepted(h) => answer_to(h, block),
-        HeaderAnswer::Refused(number) => refused(number),
+    match packets::header::read(header)? {
+        Header::Response(c, class, kind, status) => read_beside(c, class, kind, status, block),
+        Header::Unconfirmed(_, _) => Err(Refusal::Format),
+        Header::Confirmed(_, _, _, _) => Err(Refusal::Format),
     }
 }

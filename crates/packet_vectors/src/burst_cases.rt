@@ -1,11 +1,11 @@
 // Bursts and datagrams, written and read. The information is the header of packet_cases.
 ghost use Rattle.report.specs.Counted.{MoreCases};
 
+use crate::number_of;
 use addresses::{RadioAddress, RepeaterNumber};
 use bursts::burst;
 use bursts::burst::Sync;
 use datagrams::Labels;
-use foundation::refusal::Refusal;
 use report::Report;
 use std::io::Write;
 
@@ -21,14 +21,6 @@ fn whole() -> [u8; 33] {
 // The same with three wrong slot-type bits, all of column 4 wrong, and a bit of every other column.
 fn damaged() -> [u8; 33] {
     *b"\x06\x49\x2f\xab\xbd\x37\x14\x4b\x2d\xd3\x0a\x49\xe5\x9d\xff\x57\xd7\x5d\xf5\xd3\xba\xdc\x6b\xb8\xc1\x66\x1e\x06\x18\x41\x88\xc7\xcb"
-}
-
-// The number of what is given, 0 where it isn't refused.
-fn number_of<T: Drop>(given: Result<T, Refusal>) -> u32 {
-    match given {
-        Ok(_) => 0,
-        Err(refusal) => u32::from(refusal.number()),
-    }
 }
 
 fn written<W: Write>(report: &mut Report<W>, text: &str, sync: Sync, expected: &[u8])
@@ -138,13 +130,7 @@ fn read_datagram<W: Write>(report: &mut Report<W>)
     let got = found.map_or([0u8; 12], |d| d.info);
     let stream = found.map_or(0, |d| d.labels.stream);
     report.octets("reading this datagram, ", "information", &got, &info());
-    report.number(
-        "reading this datagram, ",
-        "stream",
-        8,
-        stream,
-        0xCAFE0001,
-    );
+    report.number("reading this datagram, ", "stream", 8, stream, 0xCAFE0001);
     report.number(
         "sequence counter after ",
         "ff",

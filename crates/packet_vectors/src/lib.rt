@@ -10,8 +10,17 @@ mod burst_cases;
 mod packet_cases;
 mod receiver_cases;
 
+use foundation::refusal::Refusal;
 use report::Report;
 use std::io::Write;
+
+// The number of what is given, 0 where it isn't refused.
+fn number_of<T: Drop>(given: Result<T, Refusal>) -> u32 {
+    match given {
+        Ok(_) => 0,
+        Err(refusal) => u32::from(refusal.number()),
+    }
+}
 
 // Writes a line for each case and counts them. It also promises that the definitions give the worked examples of PExamples.
 pub fn cases<W: Write>(report: &mut Report<W>)

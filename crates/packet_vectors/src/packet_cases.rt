@@ -1,11 +1,11 @@
 // Headers, blocks, messages and responses, written and read.
 ghost use Rattle.report.specs.Counted.{MoreCases};
 
+use crate::number_of;
 use addresses::RadioAddress;
 use messages::message::Delivery;
-use messages::response::Reply;
+use messages::response::{Reply, ResponseOctets};
 use messages::{message, response};
-use packets::header::HeaderAnswer;
 use packets::{block, header};
 use report::Report;
 use std::io::Write;
@@ -32,11 +32,10 @@ fn back() -> Delivery {
 
 // 256 times the number of blocks and the pad, or the number of the refusal.
 fn sized(octets: usize) -> u32 {
-    let size = message::size_of(octets);
-    if size.number != 0 {
-        return u32::from(size.number);
+    match message::size_of(octets) {
+        Ok(size) => (u32::from(size.blocks) << 8) | u32::from(size.pad),
+        Err(refusal) => u32::from(refusal.number()),
     }
-    (u32::from(size.blocks) << 8) | u32::from(size.pad)
 }
 
 fn size<W: Write>(report: &mut Report<W>, text: &str, octets: usize, expected: u32)
@@ -69,7 +68,7 @@ fn largest_sizes<W: Write>(report: &mut Report<W>)
 fn block_of<W: Write>(report: &mut Report<W>, text: &str, n: usize, expected: &[u8])
     ensures { MoreCases 1 report.old.tally report.new.tally }
 {
-    let octets = message::block(b"TARE -12.5 mm", n).octets;
+    let octets = message::block(b"TARE -12.5 mm", n).unwrap_or([0u8; 12]);
     report.octets("TARE -12.5 mm, ", text, &octets, expected);
 }
 
@@ -77,8 +76,8 @@ fn block_of<W: Write>(report: &mut Report<W>, text: &str, n: usize, expected: &[
 fn message_octets<W: Write>(report: &mut Report<W>)
     ensures { MoreCases 4 report.old.tally report.new.tally }
 {
-    let full = message::full_header(13, delivery()).octets;
-    let partial = message::partial_header(13, delivery(), 1).octets;
+    let full = message::full_header(13, delivery()).unwrap_or([0u8; 12]);
+    let partial = message::partial_header(13, delivery(), 1).unwrap_or([0u8; 12]);
     report.octets(
         "TARE -12.5 mm, ",
         "header",
@@ -105,14 +104,6 @@ fn message_octets<W: Write>(report: &mut Report<W>)
     );
 }
 
-// 0 for a header that is read, else the number of the refusal.
-fn header_number(octets: &[u8]) -> u32 {
-    match header::read(octets) {
-        HeaderAnswer::Accepted(_) => 0,
-        HeaderAnswer::Refused(number) => u32::from(number),
-    }
-}
-
 fn read_header<W: Write>(report: &mut Report<W>, text: &str, octets: &[u8], expected: u32)
     ensures { MoreCases 1 report.old.tally report.new.tally }
 {
@@ -120,7 +111,7 @@ fn read_header<W: Write>(report: &mut Report<W>, text: &str, octets: &[u8], expe
         "reading a header, ",
         text,
         1,
-        header_number(octets),
+        number_of(header::read(octets)),
         expected,
     );
 }
@@ -151,7 +142,7 @@ fn read_block<W: Write>(report: &mut Report<W>, text: &str, octets: &[u8], expec
         "reading a block, ",
         text,
         1,
-        u32::from(block::read(octets).number),
+        number_of(block::read(octets)),
         expected,
     );
 }
@@ -169,7 +160,7 @@ fn write_block<W: Write>(
         "writing a block, ",
         text,
         2,
-        u32::from(block::write(serial, octets).number),
+        number_of(block::write(serial, octets)),
         expected,
     );
 }
@@ -196,10 +187,18 @@ fn flags() -> [u8; 8] {
     *b"\xfd\xff\xff\xff\xff\xff\xff\xff"
 }
 
+// What is written, or zeros.
+fn written(kind: Reply) -> ResponseOctets {
+    response::write(kind, back(), flags()).unwrap_or(ResponseOctets {
+        header: [0u8; 12],
+        block: None,
+    })
+}
+
 fn reply<W: Write>(report: &mut Report<W>, text: &str, kind: Reply, expected: &[u8])
     ensures { MoreCases 1 report.old.tally report.new.tally }
 {
-    let octets = response::write(kind, back(), flags()).header;
+    let octets = written(kind).header;
     report.octets("response, N(S) 5, ", text, &octets, expected);
 }
 
@@ -229,7 +228,7 @@ fn replies<W: Write>(report: &mut Report<W>)
 fn sack_block<W: Write>(report: &mut Report<W>)
     ensures { MoreCases 1 report.old.tally report.new.tally }
 {
-    let data = response::write(Reply::Sack, back(), flags()).block;
+    let data = written(Reply::Sack).block.unwrap_or([0u8; 12]);
     report.octets(
         "data block of this SACK, ",
         "block 1 of 3 missing",
@@ -245,7 +244,7 @@ fn heard<W: Write>(report: &mut Report<W>, text: &str, header: &[u8], data: &[u8
         "reading a response, ",
         text,
         1,
-        u32::from(response::read(header, data).number),
+        number_of(response::read(header, data)),
         expected,
     );
 }
@@ -256,7 +255,10 @@ fn readings<W: Write>(report: &mut Report<W>)
     let ack = b"\x01\x40\x1a\x0b\x0c\x00\x21\x04\x00\x0d\xa3\x3c";
     let sack = b"\x01\x40\x1a\x0b\x0c\x00\x21\x04\x01\x85\x80\x8d";
     let data = b"\xfd\xff\xff\xff\xff\xff\xff\xff\x00\xb6\xae\x30";
-    let found = response::read(sack, data).flags;
+    let found = match response::read(sack, data) {
+        Ok(fields) => fields.flags,
+        Err(_) => [0u8; 8],
+    };
     report.octets(
         "reading a response, ",
         "flags of the SACK",

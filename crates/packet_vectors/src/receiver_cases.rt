@@ -18,11 +18,15 @@ fn response() -> ResponseOctets {
         pad: 0,
         blocks: 3,
     };
-    receiver::event::on_end(Receiver {
+    let rx = Receiver {
         own: RadioAddress(0x002104),
         phase: 1,
         transaction,
         flags: [5, 0, 0, 0, 0, 0, 0, 0],
+    };
+    receiver::event::on_end(rx).unwrap_or(ResponseOctets {
+        header: [0u8; 12],
+        block: None,
     })
 }
 
@@ -30,7 +34,11 @@ fn response() -> ResponseOctets {
 fn handed_on(a: Answer) -> u32 {
     match a {
         Answer::Message(n) => (n % 1000) as u32,
-        _ => 1000,
+        Answer::Refused(_) => 1000,
+        Answer::Opened => 1000,
+        Answer::Repeat => 1000,
+        Answer::Stored => 1000,
+        Answer::Bad => 1000,
     }
 }
 
@@ -49,7 +57,10 @@ fn looped(store: &mut [u8]) -> u32 {
 fn front<W: Write>(report: &mut Report<W>, subject: &str, text: &str, store: &[u8], expected: &[u8])
     ensures { MoreCases 1 report.old.tally report.new.tally }
 {
-    let n = store.len().min(expected.len());
+    let n = expected.len();
+    if store.len() < n {
+        return report.octets(subject, text, store, expected);
+    }
     report.octets(subject, text, &store[..n], expected);
 }
 
@@ -66,7 +77,7 @@ fn responses<W: Write>(report: &mut Report<W>)
     report.octets(
         "its data block",
         "",
-        &r.block,
+        &r.block.unwrap_or([0u8; 12]),
         b"\xFD\xFF\xFF\xFF\xFF\xFF\xFF\xFF\x00\xB6\xAE\x30",
     );
 }

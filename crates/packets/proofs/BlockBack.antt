@@ -11,7 +11,7 @@ use Rattle.checks.specs.Checks.{block_check, block_good}
 use Rattle.checks.proofs.BlockChecks.{block_check-lt, block_carried}
 use Rattle.packets.specs.Blocks.{read_block, written_block, write_block}
 use Rattle.packets.specs.BlockClaims.{BlockReadsBack}
-use Rattle.packets.specs.declared.block.BlockOctets.{BlockOctets}
+use Rattle.packets.specs.Blocks.{BlockOctets}
 use Rattle.packets.proofs.BlockReading.{accepted}
 use Rattle.packets.proofs.BlockWriting.{size-refused, serial-refused, written}
 

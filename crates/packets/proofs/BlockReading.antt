@@ -3,7 +3,7 @@
 use mathlib.Core.Path.{◌≡◌, refl, sym, ◌∙◌}
 use mathlib.Core.Bool.{Bool, true, false, cond}
 use mathlib.Core.List.{List}
-use Prim.Native.Nat.{ℕ, ◌/◌}
+use Prim.Native.Nat.{ℕ, zero, suc, ◌/◌}
 use native.Mathlib.Omega.{arith}
 use borrow.Author.Tests.{eq-eqb, ne_eqb}
 use lib.Dec.{eqb}
@@ -13,7 +13,18 @@ use Rattle.foundation.specs.Order.{first_failed}
 use Rattle.checks.specs.Checks.{block_good}
 use Rattle.foundation.specs.Octets.{put}
 use Rattle.foundation.proofs.Copying.{put_all}
-use Rattle.packets.specs.Blocks.{block_tests, block_number, refused_block, read_block}
+use Rattle.foundation.specs.Refusals.{outcome}
+use Rattle.packets.specs.Blocks.{block_tests, block_number, refused_block, read_block, block_given}
+
+-- what the reader gives: serial and data, or the refusal of the first test that fails
+pub given_is : (b : List ℕ) → block_given (read_block b) ≡ outcome (first_failed (block_tests b)) (record { serial = get_or b 0 0 / 2; octets = drop 2 b })
+unfolding read_block block_number block_given outcome
+given_is b = go (first_failed (block_tests b))
+  where
+    go : (n : ℕ) → block_given (cond (eqb n 0) (record { number = 0; serial = get_or b 0 0 / 2; octets = drop 2 b }) (refused_block n))
+        ≡ outcome n (record { serial = get_or b 0 0 / 2; octets = drop 2 b })
+    go zero = refl
+    go (suc n) = rw (ne_eqb (suc n) 0 (λ e. omega arith))
 
 -- the number of a block of 12 octets, by the test that is left
 by_test : Bool → ℕ

@@ -16,8 +16,8 @@ use Rattle.packets.specs.Parts.{format_number, common_fields, last_octet, last_w
 use Rattle.packets.specs.declared.header.Common.{Common}
 use Rattle.packets.specs.declared.header.Header.{Header}
 use Rattle.packets.specs.declared.header.Header.TheVariants.{Response, Unconfirmed, Confirmed}
-use Rattle.packets.specs.declared.header.HeaderAnswer.TheVariants.{Accepted}
-use Rattle.packets.specs.declared.header.HeaderOctets.{HeaderOctets}
+use Rattle.packets.specs.Headers.{Accepted}
+use Rattle.packets.specs.Headers.{HeaderOctets}
 use Rattle.packets.proofs.Octets.{all-octets}
 use Rattle.packets.proofs.Widths.{first_run, run_passed}
 use Rattle.packets.proofs.HeaderParts.{written_is, common_equal}

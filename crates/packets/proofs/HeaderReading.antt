@@ -12,11 +12,12 @@ use lib.ListN.{length, get_or}
 use Rattle.addresses.specs.Octets.{address_at}
 use Rattle.addresses.specs.declared.RadioAddress.{RadioAddress}
 use Rattle.foundation.specs.Order.{first_failed}
+use Rattle.foundation.specs.Refusals.{outcome}
 use Rattle.checks.specs.Checks.{header_good}
-use Rattle.packets.specs.Headers.{header_mask, part, common_of, format_of, header_of, known_format, header_tests, read_header, header_number}
+use Rattle.packets.specs.Headers.{header_mask, part, common_of, format_of, header_of, known_format, header_tests, read_header, header_number, header_given}
 use Rattle.packets.specs.declared.header.Common.{Common}
 use Rattle.packets.specs.declared.header.Header.TheVariants.{Response, Unconfirmed, Confirmed}
-use Rattle.packets.specs.declared.header.HeaderAnswer.TheVariants.{Accepted, Refused}
+use Rattle.packets.specs.Headers.{Accepted, Refused}
 use Rattle.packets.proofs.HeaderParts.{common_equal}
 
 module _ (h : List ℕ) where
@@ -43,6 +44,15 @@ unfolding read_header header_number
 number_is h = go (first_failed (header_tests h))
   where
     go : (n : ℕ) → header_number (cond (eqb n 0) (Accepted (header_of h)) (Refused n)) ≡ n
+    go zero = refl
+    go (suc n) = rw (ne_eqb (suc n) 0 (λ e. omega arith))
+
+-- what the reader gives: the header, or the refusal of the first test that fails
+pub given_is : (h : List ℕ) → header_given (read_header h) ≡ outcome (first_failed (header_tests h)) (header_of h)
+unfolding read_header header_given outcome
+given_is h = go (first_failed (header_tests h))
+  where
+    go : (n : ℕ) → header_given (cond (eqb n 0) (Accepted (header_of h)) (Refused n)) ≡ outcome n (header_of h)
     go zero = refl
     go (suc n) = rw (ne_eqb (suc n) 0 (λ e. omega arith))
 

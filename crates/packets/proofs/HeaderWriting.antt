@@ -17,7 +17,7 @@ use Rattle.packets.specs.declared.header.Common.{Common}
 use Rattle.packets.specs.declared.header.Header.{Header}
 use Rattle.packets.specs.declared.header.Header.TheVariants.{Response, Unconfirmed, Confirmed}
 use Rattle.packets.proofs.HeaderParts.{written_is, widths_are}
-use Rattle.packets.proofs.Widths.{passed, one_fails, last_decides, each_passed, first_run, run_fails, none_but_16}
+use Rattle.packets.proofs.Widths.{passed, last_decides, each_passed, first_run, run_fails, none_but_16}
 
 pub common_within : (c : Common) → first_failed (widths (common_widths c)) ≡ 0 → CommonWithin c
 unfolding common_widths
@@ -57,19 +57,11 @@ format-known (Confirmed c x y z) = omega arith
 module _ (h : Header) where
   module _ (c : Common) (x y z : ℕ) where
     module _ (is : h ≡ Response c x y z) where
-      pub response_wide : (i : ℕ) → get_or (ltb x 4 ∷ ltb y 8 ∷ ltb z 8 ∷ []) i true ≡ false → false ≡ passed (last_widths h)
-      unfolding last_widths
-      response_wide i e = rw is (one_fails (last_widths (Response c x y z)) i e)
-
       pub response_decides : x < 4 → y < 8 → ltb z 8 ≡ passed (last_widths h)
       unfolding last_widths first_failed
       response_decides p q = rw (is, lt-ltb x 4 p, lt-ltb y 8 q) (last_decides (ltb z 8))
 
     module _ (is : h ≡ Confirmed c x y z) where
-      pub confirmed_wide : (i : ℕ) → get_or (ltb x 2 ∷ ltb y 8 ∷ ltb z 16 ∷ []) i true ≡ false → false ≡ passed (last_widths h)
-      unfolding last_widths
-      confirmed_wide i e = rw is (one_fails (last_widths (Confirmed c x y z)) i e)
-
       pub confirmed_decides : x < 2 → y < 8 → ltb z 16 ≡ passed (last_widths h)
       unfolding last_widths first_failed
       confirmed_decides p q = rw (is, lt-ltb x 2 p, lt-ltb y 8 q) (last_decides (ltb z 16))

@@ -10,7 +10,7 @@ use lib.ListN.{length, get_or}
 use Rattle.checks.specs.Checks.{header_good}
 use Rattle.packets.specs.Headers.{header_mask, part, common_of, format_of, header_of, known_format, read_header}
 use Rattle.packets.specs.HeaderClaims.{SameButReserved}
-use Rattle.packets.specs.declared.header.HeaderAnswer.TheVariants.{Accepted}
+use Rattle.packets.specs.Headers.{Accepted}
 use Rattle.packets.proofs.HeaderReading.{format-refused, accepted, format_1, format_2, format_3}
 
 -- parts of octet 0 from what is above and below its bit 5

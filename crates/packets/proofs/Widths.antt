@@ -1,6 +1,6 @@
 -- Tests that all give 16 where they fail: 0 if each is passed, 16 if one is not.
 -- Assumes nothing.
-use mathlib.Core.Path.{◌≡◌, refl, sym}
+use mathlib.Core.Path.{◌≡◌, refl}
 use mathlib.Core.Bool.{Bool, true, false}
 use mathlib.Core.List.{List, [], ◌∷◌, ◌++◌}
 use Prim.Native.Nat.{ℕ, zero, suc}
@@ -13,13 +13,6 @@ use Rattle.packets.specs.Headers.{widths}
 -- every test is passed
 abbrev pub passed : List Bool → Bool
 passed ts = eqb (first_failed (widths ts)) 0
-
-pub one_fails : (ts : List Bool) (i : ℕ) → get_or ts i true ≡ false → false ≡ passed ts
-unfolding first_failed
-one_fails [] i e = sym e
-one_fails (false ∷ ts) i e = refl
-one_fails (true ∷ ts) zero e = absurd (let z : ◌≡◌ {A = ℕ} 0 1 = cc in omega arith)
-one_fails (true ∷ ts) (suc i) e = one_fails ts i e
 
 pub first_passed : (t : Bool) (ts : List Bool) → t ≡ true → passed (t ∷ ts) ≡ passed ts
 unfolding first_failed

@@ -2,8 +2,7 @@
 -- Assumes nothing.
 use Rattle.std.specs.Prelude.{◌≡◌, true, false, List, ◌↔◌, ◌≢◌, ℕ, ◌/◌, ◌≤◌, ◌<◌, length, get_or, drop, replicate}
 use Rattle.checks.specs.Checks.{block_good}
-use Rattle.packets.specs.Blocks.{read_block, written_block, write_block}
-use Rattle.packets.specs.declared.block.BlockOctets.{BlockOctets}
+use Rattle.packets.specs.Blocks.{BlockOctets, read_block, written_block, write_block}
 
 -- an answer of the writer without a number reads back as this serial and these data octets
 abbrev pub BlockReadsBack : ℕ → List ℕ → BlockOctets → Type 0

@@ -3,10 +3,8 @@
 use Rattle.std.specs.Prelude.{◌≡◌, true, false, List, ◌↔◌, ◌≢◌, ℕ, ◌/◌, ◌%◌, ◌≤◌, length, get_or, replicate}
 use Rattle.foundation.specs.Order.{first_failed}
 use Rattle.checks.specs.Checks.{header_good}
-use Rattle.packets.specs.Headers.{header_mask, format_of, header_of, header_tests, read_header, header_number, written_header, width_number, write_header}
+use Rattle.packets.specs.Headers.{Accepted, Refused, HeaderOctets, header_mask, format_of, header_of, header_tests, read_header, header_number, written_header, width_number, write_header}
 use Rattle.packets.specs.declared.header.Header.{Header}
-use Rattle.packets.specs.declared.header.HeaderAnswer.TheVariants.{Accepted, Refused}
-use Rattle.packets.specs.declared.header.HeaderOctets.{HeaderOctets}
 
 -- octets 0 to 9 of h and k are equal but for the reserved bits
 pub record SameButReserved (h k : List ℕ) : Type 0 where

@@ -1,16 +1,25 @@
 -- A header: 12 octets. 0: group, A, reserved, top pad bit, format (4). 1: SAP (4), low pad bits (4). 2-4 destination, 5-7 source.
 -- 8: full-message flag, block count (7). 9 by format. 10-11: the header's check with mask CCCC, high octet first.
 -- Assumes nothing.
-use Rattle.std.specs.Prelude.{Bool, false, cond, List, [], ◌∷◌, ◌++◌, ℕ, ◌+◌, ◌*◌, ◌/◌, ◌%◌, ◌^◌, eqb, ltb, length, get_or, replicate}
+use Rattle.std.specs.Prelude.{Bool, false, cond, Result, Ok, Err, List, [], ◌∷◌, ◌++◌, ℕ, ◌+◌, ◌*◌, ◌/◌, ◌%◌, ◌^◌, eqb, ltb, length, get_or, replicate}
 use Rattle.addresses.specs.Octets.{address_at, three_octets}
 use Rattle.foundation.specs.Order.{first_failed}
+use Rattle.foundation.specs.Refusals.{refusal, outcome}
+use Rattle.foundation.specs.declared.refusal.Refusal.{Refusal}
 use Rattle.checks.specs.Checks.{header_check, header_good}
 use Rattle.packets.specs.declared.header.Common.{Common}
 use Rattle.packets.specs.declared.header.Header.{Header}
 use Rattle.packets.specs.declared.header.Header.TheVariants.{Response, Unconfirmed, Confirmed}
-use Rattle.packets.specs.declared.header.HeaderAnswer.{HeaderAnswer}
-use Rattle.packets.specs.declared.header.HeaderAnswer.TheVariants.{Accepted, Refused}
-use Rattle.packets.specs.declared.header.HeaderOctets.{HeaderOctets}
+
+-- what is read: the header, or the number of the refusal
+pub data HeaderAnswer : Type 0 where
+  Accepted : Header → HeaderAnswer
+  Refused : ℕ → HeaderAnswer
+
+-- what is written: a number, 0 for none, with the octets
+pub record HeaderOctets : Type 0 where
+  pub number : ℕ
+  pub octets : List ℕ
 
 -- the mask of headers
 abbrev pub header_mask : ℕ
@@ -61,6 +70,11 @@ unfoldable pub header_number : HeaderAnswer → ℕ
 header_number (Accepted h) = 0
 header_number (Refused n) = n
 
+-- what the reader gives
+unfoldable pub header_given : HeaderAnswer → Result Header Refusal
+header_given (Accepted h) = Ok h
+header_given (Refused n) = Err (refusal n)
+
 -- ---- writing
 
 -- octets 0 to 9 of a format, the fields that all formats have and the last of the ten; reserved bits 0
@@ -102,6 +116,10 @@ width_number h = first_failed (widths (header_widths h))
 -- zeros beside the number of a refusal
 unfoldable pub write_header : Header → HeaderOctets
 write_header h = record { number = width_number h; octets = cond (eqb (width_number h) 0) (written_header h) (replicate 12 0) }
+
+-- what the writer gives
+unfoldable pub header_octets_given : HeaderOctets → Result (List ℕ) Refusal
+header_octets_given w = outcome w.number w.octets
 
 -- a header of a format given as a number, its octet 9 in up to three fields; 16 for a format not 1 to 3
 unfoldable pub header_for : ℕ → Common → ℕ → ℕ → ℕ → HeaderAnswer

@@ -1,21 +1,15 @@
 // A confirmed rate 1/2 block of 12 octets.
 ghost use Rattle.std.specs.Prelude.{◌≡◌, ◌<◌, length, drop};
-ghost use Rattle.packets.specs.Blocks.{read_block, refused_block, written_block, write_block};
+ghost use Rattle.packets.specs.Blocks.{read_block, block_given, written_block, write_block, block_octets_given};
 ghost use Rattle.packets.specs.BlockClaims.{BlockReadsBack};
 
-// What is read: number 0, the serial and the data octets, or the number of the refusal and zeros.
-#[derive(Clone, Copy)]
+use foundation::refusal::Refusal;
+
+// The serial and the data octets.
+#[derive(Clone, Copy, Debug, PartialEq, Eq)]
 pub struct Block {
-    pub number: u8,
     pub serial: u8,
     pub octets: [u8; 10],
-}
-
-// What is written: number 0 and the octets, or the number of the refusal and zeros.
-#[derive(Clone, Copy)]
-pub struct BlockOctets {
-    pub number: u8,
-    pub octets: [u8; 12],
 }
 
 // The ten data octets of a block.
@@ -28,31 +22,20 @@ fn data_of(octets: &[u8]) -> [u8; 10]
     os
 }
 
-fn refused(number: u8) -> Block
-    ensures { result ≡ refused_block number }
-{
-    Block {
-        number,
-        serial: 0,
-        octets: [0u8; 10],
-    }
-}
-
 // Reads a block.
-pub fn read(octets: &[u8]) -> Block
-    ensures { result ≡ read_block octets.now }
+pub fn read(octets: &[u8]) -> Result<Block, Refusal>
+    ensures { result ≡ block_given (read_block octets.now) }
 {
     if octets.len() != 12 {
-        return refused(1);
+        return Err(Refusal::Size);
     }
     if !checks::block_good(octets) {
-        return refused(13);
+        return Err(Refusal::BlockCheck);
     }
-    Block {
-        number: 0,
+    Ok(Block {
         serial: octets[0] / 2,
         octets: data_of(octets),
-    }
+    })
 }
 
 // The octets of a block.
@@ -69,23 +52,14 @@ fn octets_of(serial: u8, octets: &[u8]) -> [u8; 12]
 }
 
 // Writes a block of ten data octets, which reads back.
-pub fn write(serial: u8, octets: &[u8]) -> BlockOctets
-    ensures { (result ≡ write_block serial octets.now) × BlockReadsBack serial octets.now result }
+pub fn write(serial: u8, octets: &[u8]) -> Result<[u8; 12], Refusal>
+    ensures { (result ≡ block_octets_given (write_block serial octets.now)) × BlockReadsBack serial octets.now (write_block serial octets.now) }
 {
     if octets.len() != 10 {
-        return BlockOctets {
-            number: 1,
-            octets: [0u8; 12],
-        };
+        return Err(Refusal::Size);
     }
     if 128 <= serial {
-        return BlockOctets {
-            number: 16,
-            octets: [0u8; 12],
-        };
+        return Err(Refusal::Unwritable);
     }
-    BlockOctets {
-        number: 0,
-        octets: octets_of(serial, octets),
-    }
+    Ok(octets_of(serial, octets))
 }

@@ -1,17 +1,18 @@
 // A header of 12 octets.
 ghost use Rattle.std.specs.Prelude.{◌≡◌, ◌<◌, eqb};
 ghost use Rattle.foundation.specs.Order.{first_failed};
-ghost use Rattle.packets.specs.Headers.{common_of, header_of, known_format, read_header, header_body, with_check, common_widths, widths, write_header, header_for};
+ghost use Rattle.packets.specs.Headers.{common_of, header_of, known_format, read_header, header_given, header_body, with_check, common_widths, widths, write_header, header_octets_given, header_for};
 ghost use Rattle.packets.specs.HeaderClaims.{HeaderReadsBack};
 ghost use Rattle.packets.specs.Parts.{format_number, common_fields, last_octet, last_widths, CommonWithin, LastWithin};
 
 use addresses::RadioAddress;
+use foundation::refusal::Refusal;
 
 // The mask of headers.
 const MASK: u16 = 0xCCCC;
 
 // The fields that all formats have. `requested` is A, response requested; `full` the full-message flag, `blocks` the block count.
-#[derive(Clone, Copy)]
+#[derive(Clone, Copy, Debug, PartialEq, Eq)]
 pub struct Common {
     pub group: u8,
     pub requested: u8,
@@ -24,25 +25,11 @@ pub struct Common {
 }
 
 // A header by its format: 1 with class, type and status; 2 with FSN; 3 with S, N(S) and FSN.
-#[derive(Clone, Copy)]
+#[derive(Clone, Copy, Debug, PartialEq, Eq)]
 pub enum Header {
     Response(Common, u8, u8, u8),
     Unconfirmed(Common, u8),
     Confirmed(Common, u8, u8, u8),
-}
-
-// What is read: the header, or the number of the refusal.
-#[derive(Clone, Copy)]
-pub enum HeaderAnswer {
-    Accepted(Header),
-    Refused(u8),
-}
-
-// What is written: number 0 and the octets, or the number of the refusal and zeros.
-#[derive(Clone, Copy)]
-pub struct HeaderOctets {
-    pub number: u8,
-    pub octets: [u8; 12],
 }
 
 // ---- reading
@@ -83,28 +70,25 @@ fn read_fields(h: &[u8]) -> Header
 fn known(format: u8) -> bool
     ensures { result ≡ known_format format }
 {
-    if format == 0 {
-        return false;
-    }
-    format < 4
+    format != 0 && format < 4
 }
 
 // Reads a header.
-pub fn read(octets: &[u8]) -> HeaderAnswer
-    ensures { result ≡ read_header octets.now }
+pub fn read(octets: &[u8]) -> Result<Header, Refusal>
+    ensures { result ≡ header_given (read_header octets.now) }
 {
     if octets.len() != 12 {
-        return HeaderAnswer::Refused(1);
+        return Err(Refusal::Size);
     }
     let good = checks::header_good(MASK, octets);
     let format_known = known(octets[0] % 16);
     if !good {
-        return HeaderAnswer::Refused(8);
+        return Err(Refusal::HeaderCheck);
     }
     if !format_known {
-        return HeaderAnswer::Refused(9);
+        return Err(Refusal::Format);
     }
-    HeaderAnswer::Accepted(read_fields(octets))
+    Ok(read_fields(octets))
 }
 
 // ---- writing
@@ -145,28 +129,14 @@ fn last_of(h: Header) -> u8
 fn common_fits(c: Common) -> bool
     ensures { result ≡ eqb (first_failed (widths (common_widths c))) 0 }
 {
-    if 2 <= c.group {
-        return false;
-    }
-    if 2 <= c.requested {
-        return false;
-    }
-    if 32 <= c.pad {
-        return false;
-    }
-    if 16 <= c.sap {
-        return false;
-    }
-    if !addresses::fits(c.destination) {
-        return false;
-    }
-    if !addresses::fits(c.source) {
-        return false;
-    }
-    if 2 <= c.full {
-        return false;
-    }
-    c.blocks < 128
+    c.group < 2
+        && c.requested < 2
+        && c.pad < 32
+        && c.sap < 16
+        && addresses::fits(c.destination)
+        && addresses::fits(c.source)
+        && c.full < 2
+        && c.blocks < 128
 }
 
 // Whether each field of octet 9 is within its width.
@@ -174,25 +144,9 @@ fn last_fits(h: Header) -> bool
     ensures { result ≡ eqb (first_failed (widths (last_widths h))) 0 }
 {
     match h {
-        Header::Response(_, class, kind, status) => {
-            if 4 <= class {
-                return false;
-            }
-            if 8 <= kind {
-                return false;
-            }
-            status < 8
-        }
+        Header::Response(_, class, kind, status) => class < 4 && kind < 8 && status < 8,
         Header::Unconfirmed(_, fsn) => fsn < 16,
-        Header::Confirmed(_, s, ns, fsn) => {
-            if 2 <= s {
-                return false;
-            }
-            if 8 <= ns {
-                return false;
-            }
-            fsn < 16
-        }
+        Header::Confirmed(_, s, ns, fsn) => s < 2 && ns < 8 && fsn < 16,
     }
 }
 
@@ -221,36 +175,24 @@ fn octets_of(format: u8, c: Common, last: u8) -> [u8; 12]
 }
 
 // Writes a header, which reads back.
-pub fn write(h: Header) -> HeaderOctets
-    ensures { (result ≡ write_header h) × HeaderReadsBack h result }
+pub fn write(h: Header) -> Result<[u8; 12], Refusal>
+    ensures { (result ≡ header_octets_given (write_header h)) × HeaderReadsBack h (write_header h) }
 {
     let c = common_of(h);
-    if !common_fits(c) {
-        return HeaderOctets {
-            number: 16,
-            octets: [0u8; 12],
-        };
+    if !common_fits(c) || !last_fits(h) {
+        return Err(Refusal::Unwritable);
     }
-    if !last_fits(h) {
-        return HeaderOctets {
-            number: 16,
-            octets: [0u8; 12],
-        };
-    }
-    HeaderOctets {
-        number: 0,
-        octets: octets_of(format_of(h), c, last_of(h)),
-    }
+    Ok(octets_of(format_of(h), c, last_of(h)))
 }
 
 // The header of a format given as a number, with up to three fields for octet 9. A format not 1 to 3 is refused with 16.
-pub fn for_format(format: u8, c: Common, x: u8, y: u8, z: u8) -> HeaderAnswer
-    ensures { result ≡ header_for format c x y z }
+pub fn for_format(format: u8, c: Common, x: u8, y: u8, z: u8) -> Result<Header, Refusal>
+    ensures { result ≡ header_given (header_for format c x y z) }
 {
     match format {
-        1 => HeaderAnswer::Accepted(Header::Response(c, x, y, z)),
-        2 => HeaderAnswer::Accepted(Header::Unconfirmed(c, x)),
-        3 => HeaderAnswer::Accepted(Header::Confirmed(c, x, y, z)),
-        _ => HeaderAnswer::Refused(16),
+        1 => Ok(Header::Response(c, x, y, z)),
+        2 => Ok(Header::Unconfirmed(c, x)),
+        3 => Ok(Header::Confirmed(c, x, y, z)),
+        _ => Err(Refusal::Unwritable),
     }
 }

@@ -1,17 +1,21 @@
 -- What a header and an end of attempt lead to: by what was found of the receiver and of the octets.
 -- Assumes nothing.
-use mathlib.Core.Path.{◌≡◌, ap₂, ◌∙◌}
+use mathlib.Core.Path.{◌≡◌, sym, ap, ◌∙◌}
 use mathlib.Core.Bool.{Bool, true, false, cond}
 use mathlib.Core.List.{List}
 use Prim.Native.Nat.{ℕ}
-use native.Mathlib.Omega.{arith}
 use lib.Dec.{eqb}
+use borrow.Author.Tests.{ne_eqb}
+use Rattle.std.specs.Prelude.{Ok, Err}
+use Rattle.foundation.specs.Refusals.{refusal_number}
+use Rattle.foundation.specs.declared.refusal.Refusal.{Refusal}
+use Rattle.foundation.proofs.Refusals.{ok_zero, ok_same, err_number, number_err}
 use Rattle.transactions.specs.Flags.{flagged}
-use Rattle.transactions.specs.Transactions.{transaction_of, is_full, heard_number, heard_of, belongs, repeats}
+use Rattle.transactions.specs.Transactions.{heard_number, heard_of, heard_given, belongs, repeats}
 use Rattle.transactions.specs.Answers.{no_response, response_to}
+use Rattle.transactions.specs.declared.header.Heard.{Heard}
 use Rattle.transactions.specs.declared.header.Transaction.{Transaction}
-use Rattle.transactions.specs.declared.header.Heard.TheVariants as heard
-use Rattle.foundation.proofs.Tests.{either}
+use Rattle.transactions.proofs.Hearing.{heard_is, heard_small}
 use Rattle.receiver_state.specs.Receiver.{no_flags, receiver_good}
 use Rattle.receiver.specs.Events.{answered, header_refusal, opened_by, on_header, on_end}
 use Rattle.receiver.specs.Parts.{on_heard}
@@ -44,29 +48,18 @@ module _ (rx : Receiver) (h : List ℕ) where
     unfolding header_refusal
     number = rw good
 
-    pub header_heard : (t : Transaction) (full : Bool) → heard.Accepted t full ≡ heard_of rx.own h → on_heard rx t full ≡ on_header rx h
-    unfolding heard_of
-    header_heard t full e =
-        either (eqb (heard_number rx.own h) 0)
-        (λ z. let e' : heard.Accepted t full ≡ heard.Accepted (transaction_of h) (is_full h) = e ∙ rw z in
-        let same : t ≡ transaction_of h = cc in
-        let whole : full ≡ is_full h = cc in
-        ap₂ (on_heard rx) same whole ∙ unfold on_heard on_header opened_by repeats in rw (number, z))
-        (λ z. let e' : heard.Accepted t full ≡ heard.Refused (heard_number rx.own h) = e ∙ rw z in
-        let o : ◌≡◌ {A = ℕ} 0 1 = cc in absurd (omega arith))
+    pub header_heard : (x : Heard) → heard_given (heard_of rx.own h) ≡ Ok x → on_heard rx x.transaction x.full ≡ on_header rx h
+    unfolding on_heard on_header opened_by repeats
+    header_heard x e =
+        let f = sym (heard_is rx.own h) ∙ e in
+        ap (λ (y : Heard). on_heard rx y.transaction y.full) (sym (ok_same _ _ x f)) ∙ rw (number, ok_zero _ _ x f)
 
-    left_alone : (n : ℕ) → eqb (heard_number rx.own h) 0 ≡ false → n ≡ heard_number rx.own h → answered rx (Refused n) ≡ on_header rx h
+    pub header_unheard : (r : Refusal) (n : ℕ) → heard_given (heard_of rx.own h) ≡ Err r → n ≡ refusal_number r → answered rx (Refused n) ≡ on_header rx h
     unfolding on_header
-    left_alone n z is = rw (number, z, is)
-
-    pub header_unheard : (n : ℕ) → heard.Refused n ≡ heard_of rx.own h → answered rx (Refused n) ≡ on_header rx h
-    unfolding heard_of
-    header_unheard n e =
-        either (eqb (heard_number rx.own h) 0)
-        (λ z. let e' : heard.Refused n ≡ heard.Accepted (transaction_of h) (is_full h) = e ∙ rw z in
-        let o : ◌≡◌ {A = ℕ} 0 1 = cc in absurd (omega arith))
-        (λ z. let e' : heard.Refused n ≡ heard.Refused (heard_number rx.own h) = e ∙ rw z in
-        left_alone n z cc)
+    header_unheard r n e is =
+        let f = sym (heard_is rx.own h) ∙ e in
+        rw (number, ne_eqb (heard_number rx.own h) 0 (err_number _ _ r f))
+        (ap (λ (k : ℕ). answered rx (Refused k)) (is ∙ number_err _ _ r (heard_small rx.own h) f))
 
 -- ---- ends of attempt
 

@@ -4,3 +4,4 @@ pub mod Taking
 pub mod BlockNumbers
 pub mod OnBlock
 pub mod Claims
+pub mod Ends

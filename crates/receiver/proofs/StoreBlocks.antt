@@ -1,7 +1,7 @@
 -- Blocks of the store: one that is compared, one that is put in, and what stands there then.
 -- Assumes nothing.
 use mathlib.Core.Path.{◌≡◌, sym, ap, ◌∙◌}
-use mathlib.Core.Bool.{Bool, true, false}
+use mathlib.Core.Bool.{Bool}
 use mathlib.Core.List.{List, ◌++◌}
 use mathlib.Core.Logic.{◌≢◌}
 use Prim.Native.Nat.{ℕ, ◌+◌, ◌*◌, ◌-◌, ◌≤◌, ◌<◌}
@@ -9,9 +9,13 @@ use native.Mathlib.Omega.{arith}
 use lib.Dec.{eqb, ltb}
 use lib.ListN.{length, get_or, take, drop, length-append, length-take, length-drop, get_or-append}
 use lib.Seq.{ext_get_or, get_or-take, get_or-drop, get_or-append-add}
-use borrow.Author.Tests.{ltb-true, ltb-false, eq-eqb, ne_eqb}
+use lib.Pointwise.{pointwise, bytes_decides}
+use borrow.Author.Tests.{ltb-true, ltb-false, eqb-true, eq-eqb}
 use Rattle.foundation.specs.Octets.{over, put}
-use Rattle.foundation.proofs.Tests.{either}
+use Rattle.foundation.specs.Order.{every}
+use Rattle.foundation.proofs.Every.{every_held}
+use Rattle.foundation.proofs.Tests.{either, same_test, every_true}
+use Rattle.transactions.specs.Transactions.{same_data}
 use Rattle.foundation.proofs.Copying.{put_fits}
 use Rattle.receiver_state.specs.Receiver.{block_at}
 use Rattle.receiver.specs.Events.{put_block}
@@ -24,17 +28,19 @@ pub get_d_at : (store : List ℕ) (n i : ℕ) → i < 10 → get_or (block_at st
 unfolding block_at
 get_d_at store n i h = rw (get_or-take, get_or-drop)
 
--- ---- compared octet by octet
+-- ---- compared
 
-abbrev pub same_at : List ℕ → ℕ → List ℕ → ℕ → Bool
-same_at store n os i = eqb (get_or (block_at store n) i 0) (get_or os i 0)
-
-module _ (store : List ℕ) (n : ℕ) (os : List ℕ) (i : ℕ) (h : i < 10) where
-  pub octet_same : get_or store (10 * n + i) 0 ≡ get_or os i 0 → same_at store n os i ≡ true
-  octet_same e = eq-eqb (get_or (block_at store n) i 0) (get_or os i 0) (get_d_at store n i h ∙ e)
-
-  pub octet_differs : get_or store (10 * n + i) 0 ≢ get_or os i 0 → same_at store n os i ≡ false
-  octet_differs d = ne_eqb (get_or (block_at store n) i 0) (get_or os i 0) (λ e. d (sym (get_d_at store n i h) ∙ e))
+-- slices are equal exactly if their octets are
+pub slices_same : (store : List ℕ) (n : ℕ) (os : List ℕ) → 10 * n + 10 ≤ length store → length os ≡ 10
+    → pointwise eqb (block_at store n) os ≡ same_data (block_at store n) os
+unfolding same_data
+slices_same store n os room ten =
+    let x : List ℕ = block_at store n in
+    let test : ℕ → Bool = λ i. eqb (get_or x i 0) (get_or os i 0) in
+    same_test (pointwise eqb x os) (every 10 test)
+    (λ t. every_true 10 test (λ i l. eq-eqb (get_or x i 0) (get_or os i 0) (ap (λ (ys : List ℕ). get_or ys i 0) ((bytes_decides x os).0 t))))
+    (λ t. (bytes_decides x os).1 (ext_get_or 0 x os (length_at store n room ∙ sym ten)
+    (λ i l. eqb-true (get_or x i 0) (get_or os i 0) (every_held test 10 t i (omega (arith, length_at store n room))))))
 
 -- ---- put in
 

@@ -3,7 +3,7 @@
 use Rattle.std.specs.Prelude.{cond, List, ◌++◌, ℕ, ◌+◌, ◌*◌, ◌-◌, eqb, length, take, drop}
 use Rattle.checks.specs.Checks.{message_good}
 use Rattle.messages.specs.Messages.{block_size, check_size}
-use Rattle.messages.specs.declared.response.ResponseOctets.{ResponseOctets}
+use Rattle.messages.specs.Responses.{ResponseWritten}
 use Rattle.transactions.specs.Transactions.{transaction_of, is_full, heard_number, repeats, serial_of, data_of, taken_number}
 use Rattle.transactions.specs.Flags.{with_flag}
 use Rattle.transactions.specs.Answers.{Said, refused, opened, repeat, stored, bad, message, no_response, response_to}
@@ -83,5 +83,5 @@ on_block rx store b =
 
 -- ---- an end of attempt
 
-unfoldable pub on_end : Receiver → ResponseOctets
+unfoldable pub on_end : Receiver → ResponseWritten
 on_end rx = cond (receiver_good rx) (response_to rx.own rx.phase rx.transaction (held rx)) (no_response 1)

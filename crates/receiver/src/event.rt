@@ -1,21 +1,23 @@
 // The events of a receiver: headers, blocks and ends of attempt.
 ghost use Rattle.std.specs.Prelude.{◌≡◌, ◌+◌, ◌*◌, ◌≤◌, length, true, false, cond, eqb};
 ghost use Rattle.messages.specs.Messages.{block_size};
+ghost use Rattle.messages.specs.Responses.{response_given};
 ghost use Rattle.transactions.specs.Transactions.{belongs, same_data};
 ghost use Rattle.receiver_state.specs.Receiver.{block_at, store_size, transaction_good};
 ghost use Rattle.receiver.specs.Events.{answered, on_header, put_block, taken, on_block, on_end};
 ghost use Rattle.receiver.specs.declared.event.Answer.TheVariants.{Refused};
 ghost use Rattle.receiver.specs.Claims.{HeaderRefused, BlockRefused};
-ghost use Rattle.receiver.specs.Parts.{on_heard, number_with};
+ghost use Rattle.receiver.specs.Parts.{on_heard, block_taken};
 
+use foundation::refusal::Refusal;
 use messages::message::{BLOCK, CHECK};
 use messages::response::ResponseOctets;
 use packets::block::Block;
 use receiver_state::{Receiver, STORE};
-use transactions::header::{Heard, Transaction};
+use transactions::header::Transaction;
 
 // What is answered to a header or a block. A message is the store's first octets, this many.
-#[derive(Clone, Copy)]
+#[derive(Clone, Copy, Debug, PartialEq, Eq)]
 pub enum Answer {
     Refused(u8),
     Opened,
@@ -47,11 +49,7 @@ fn refused(rx: Receiver, number: u8) -> Step
 fn is_repeat(rx: Receiver, t: Transaction, full: bool) -> bool
     ensures { result ≡ cond (eqb rx.phase 0) false (belongs rx.transaction t full) }
 {
-    if rx.phase == 0 {
-        return false;
-    }
-    let present = rx.transaction;
-    transactions::header::belongs_to(present, t, full)
+    rx.phase != 0 && transactions::header::belongs_to(rx.transaction, t, full)
 }
 
 // A header that is for this receiver.
@@ -67,15 +65,13 @@ fn heard(rx: Receiver, t: Transaction, full: bool) -> Step
     if !full {
         return refused(rx, 12);
     }
-    let own = rx.own;
-    let receiver = Receiver {
-        own,
-        phase: 1,
-        transaction: t,
-        flags: [0u8; 8],
-    };
     Step {
-        receiver,
+        receiver: Receiver {
+            own: rx.own,
+            phase: 1,
+            transaction: t,
+            flags: [0u8; 8],
+        },
         answer: Answer::Opened,
     }
 }
@@ -87,10 +83,9 @@ pub fn on_header(rx: Receiver, header: &[u8]) -> Step
     if !receiver_state::is_good(rx) {
         return refused(rx, 1);
     }
-    let own = rx.own;
-    match transactions::header::hear(own, header) {
-        Heard::Accepted(t, full) => heard(rx, t, full),
-        Heard::Refused(number) => refused(rx, number),
+    match transactions::header::hear(rx.own, header) {
+        Ok(h) => heard(rx, h.transaction, h.full),
+        Err(refusal) => refused(rx, refusal.number()),
     }
 }
 
@@ -101,14 +96,7 @@ fn same_block(store: &[u8], n: usize, octets: [u8; BLOCK]) -> bool
     requires { block_size * n + block_size ≤ length store.now }
     ensures { result ≡ same_data (block_at store.now n) octets }
 {
-    let mut i: usize = BLOCK;
-    while 0 < i {
-        i -= 1;
-        if store[BLOCK * n + i] != octets[i] {
-            return false;
-        }
-    }
-    true
+    &store[BLOCK * n..BLOCK * n + BLOCK] == &octets[..]
 }
 
 // These data octets become those of block n of the store.
@@ -119,36 +107,25 @@ fn put_block(store: &mut [u8], n: usize, octets: [u8; BLOCK])
     foundation::octets::put(store, BLOCK * n, &octets);
 }
 
-// The number given for a block that is read, 0 for none.
-fn number_of(rx: Receiver, store: &[u8], block: Block) -> u8
-    ensures { result ≡ number_with rx store.now block }
+// The block of these octets, where it is taken.
+fn block_taken(rx: Receiver, store: &[u8], octets: &[u8]) -> Result<Block, Refusal>
+    ensures { result ≡ block_taken rx store.now octets.now }
 {
-    if !receiver_state::is_good(rx) {
-        return 1;
+    if !receiver_state::is_good(rx) || store.len() != STORE {
+        return Err(Refusal::Size);
     }
-    if store.len() != STORE {
-        return 1;
-    }
-    if block.number != 0 {
-        return block.number;
-    }
+    let block = packets::block::read(octets)?;
     if rx.phase != 1 {
-        return 12;
+        return Err(Refusal::NoTransaction);
     }
-    let t = rx.transaction;
-    if t.blocks <= block.serial {
-        return 14;
+    if rx.transaction.blocks <= block.serial {
+        return Err(Refusal::Serial);
     }
     let n = block.serial as usize;
-    let flags = rx.flags;
-    if !transactions::flags::is_set(flags, n) {
-        return 0;
+    if transactions::flags::is_set(rx.flags, n) && !same_block(store, n, block.octets) {
+        return Err(Refusal::OtherOctets);
     }
-    let octets = block.octets;
-    if !same_block(store, n, octets) {
-        return 15;
-    }
-    0
+    Ok(block)
 }
 
 // What a new block leads to, which stands in the store and is flagged.
@@ -156,11 +133,8 @@ fn taken_block(rx: Receiver, store: &[u8]) -> Step
     requires { (transaction_good rx.transaction ≡ true) × (length store.now ≡ store_size) }
     ensures { result ≡ taken rx store.now }
 {
-    let own = rx.own;
-    let transaction = rx.transaction;
-    let flags = rx.flags;
-    let blocks = transaction.blocks as usize;
-    if !transactions::flags::all_below(flags, blocks) {
+    let blocks = rx.transaction.blocks as usize;
+    if !transactions::flags::all_below(rx.flags, blocks) {
         return Step {
             receiver: rx,
             answer: Answer::Stored,
@@ -168,27 +142,18 @@ fn taken_block(rx: Receiver, store: &[u8]) -> Step
     }
     let size = BLOCK * blocks;
     if !checks::message_good(&store[..size]) {
-        let receiver = Receiver {
-            own,
-            phase: 1,
-            transaction,
-            flags: [0u8; 8],
-        };
         return Step {
-            receiver,
+            receiver: Receiver {
+                phase: 1,
+                flags: [0u8; 8],
+                ..rx
+            },
             answer: Answer::Bad,
         };
     }
-    let pad = transaction.pad as usize;
-    let receiver = Receiver {
-        own,
-        phase: 2,
-        transaction,
-        flags,
-    };
     Step {
-        receiver,
-        answer: Answer::Message(size - CHECK - pad),
+        receiver: Receiver { phase: 2, ..rx },
+        answer: Answer::Message(size - CHECK - rx.transaction.pad as usize),
     }
 }
 
@@ -198,29 +163,23 @@ pub fn on_block(rx: Receiver, store: &mut [u8], octets: &[u8]) -> Step
         × (store.new ≡ (on_block rx store.old octets.now).store)
         × BlockRefused rx store.old result store.new }
 {
-    let block = packets::block::read(octets);
-    let number = number_of(rx, store, block);
-    if number != 0 {
-        return refused(rx, number);
-    }
+    let block = match block_taken(rx, store, octets) {
+        Ok(block) => block,
+        Err(refusal) => return refused(rx, refusal.number()),
+    };
     let n = block.serial as usize;
-    let flags = rx.flags;
-    if transactions::flags::is_set(flags, n) {
+    if transactions::flags::is_set(rx.flags, n) {
         return Step {
             receiver: rx,
             answer: Answer::Repeat,
         };
     }
-    let data = block.octets;
-    put_block(store, n, data);
-    let own = rx.own;
-    let transaction = rx.transaction;
-    let more = transactions::flags::with(flags, n);
+    put_block(store, n, block.octets);
+    let flags = transactions::flags::with(rx.flags, n);
     let next = Receiver {
-        own,
         phase: 1,
-        transaction,
-        flags: more,
+        flags,
+        ..rx
     };
     taken_block(next, store)
 }
@@ -228,19 +187,12 @@ pub fn on_block(rx: Receiver, store: &mut [u8], octets: &[u8]) -> Step
 // ---- ends of attempt
 
 // The response to an end of attempt.
-pub fn on_end(rx: Receiver) -> ResponseOctets
-    ensures { result ≡ on_end rx }
+pub fn on_end(rx: Receiver) -> Result<ResponseOctets, Refusal>
+    ensures { result ≡ response_given (on_end rx) }
 {
-    if !receiver_state::is_good(rx) {
-        return ResponseOctets {
-            number: 1,
-            header: [0u8; 12],
-            blocks: 0,
-            block: [0u8; 12],
-        };
+    if receiver_state::is_good(rx) {
+        transactions::response::respond(rx.own, rx.phase, rx.transaction, rx.flags)
+    } else {
+        Err(Refusal::Size)
     }
-    let own = rx.own;
-    let transaction = rx.transaction;
-    let flags = rx.flags;
-    transactions::response::respond(own, rx.phase, transaction, flags)
 }

@@ -21,7 +21,7 @@ use Rattle.messages.proofs.ResponseReading.{length-sack_data}
 use Rattle.messages.specs.Responses.{reply_code, response_header, response_data, write_response}
 use Rattle.messages.specs.declared.message.Delivery.{Delivery}
 use Rattle.messages.specs.declared.response.Reply.{Reply}
-use Rattle.messages.specs.declared.response.ResponseOctets.{ResponseOctets}
+use Rattle.messages.specs.Responses.{ResponseWritten}
 use Rattle.transactions.specs.Answers.{refused, opened, repeat, stored, bad, message, response, sack_flags, response_to, response_said}
 use Rattle.transactions.specs.Flags.{flag_octet_count, flag_octets}
 use Rattle.receiver_state.specs.Receiver.{receiver_good}
@@ -149,10 +149,10 @@ said_fits Bad store h = tt
 said_fits (Message n) store h = omega (arith, length-take n store)
 
 -- a response's header and data block have 12 octets each
-abbrev Twelves : ResponseOctets → Type 0
+abbrev Twelves : ResponseWritten → Type 0
 Twelves r = (length r.header ≡ 12) × (length r.block ≡ 12)
 
-response-said_fits : (r : ResponseOctets) → Twelves r → Fits (answer (response_said r))
+response-said_fits : (r : ResponseWritten) → Twelves r → Fits (answer (response_said r))
 unfolding response_said
 response-said_fits r t =
     either (eqb r.number 0) (λ e. rw e (t.0, omega (arith, length-take (12 * r.blocks) r.block, t.1))) (λ e. rw e tt)

@@ -21,20 +21,14 @@ const ONES: u64 = 0xFFFF_FFFF_FFFF_FFFF;
 pub fn is_set(flags: [u8; FLAG_OCTETS], n: usize) -> bool
     ensures { result ≡ flagged flags n }
 {
-    if FLAGS <= n {
-        return false;
-    }
-    (flags[n / 8] >> (n % 8)) % 2 == 1
+    n < FLAGS && (flags[n / 8] >> (n % 8)) % 2 == 1
 }
 
 // The flags with that of block n; past the flags nothing changes.
 pub fn with(flags: [u8; FLAG_OCTETS], n: usize) -> [u8; FLAG_OCTETS]
     ensures { result ≡ with_flag flags n }
 {
-    if FLAGS <= n {
-        return flags;
-    }
-    if is_set(flags, n) {
+    if FLAGS <= n || is_set(flags, n) {
         return flags;
     }
     let mut next = flags;
@@ -48,10 +42,8 @@ fn word(flags: [u8; FLAG_OCTETS], j: usize) -> u64
     ensures { result ≡ word_of (flagged flags) j }
 {
     let mut w: u64 = 0;
-    let mut k: usize = 0;
-    while k < 8 {
+    for k in 0..8 {
         w += (flags[8 * j + k] as u64) << (8 * k);
-        k += 1;
     }
     w
 }
@@ -83,10 +75,7 @@ fn between(from: usize, to: usize, j: usize) -> u64
 fn due(blocks: u64, wanted: bool) -> u64
     ensures { result ≡ cond wanted blocks 0 }
 {
-    if wanted {
-        return blocks;
-    }
-    0
+    if wanted { blocks } else { 0 }
 }
 
 // Whether every block from `from` on and below `to` is flagged where `wanted` is true, and none where it is false.
@@ -94,9 +83,7 @@ fn due(blocks: u64, wanted: bool) -> u64
 fn every_between(flags: [u8; FLAG_OCTETS], from: usize, to: usize, wanted: bool) -> bool
     ensures { result ≡ every flag_count (as_wanted flags from to wanted) }
 {
-    let mut j: usize = WORDS;
-    while 0 < j {
-        j -= 1;
+    for j in 0..WORDS {
         let blocks = between(from, to, j);
         let held = word(flags, j) & blocks;
         let expected = due(blocks, wanted);
@@ -111,10 +98,7 @@ fn every_between(flags: [u8; FLAG_OCTETS], from: usize, to: usize, wanted: bool)
 pub fn all_below(flags: [u8; FLAG_OCTETS], n: usize) -> bool
     ensures { result ≡ every n (flagged flags) }
 {
-    if FLAGS < n {
-        return false;
-    }
-    every_between(flags, 0, n, true)
+    n <= FLAGS && every_between(flags, 0, n, true)
 }
 
 // Whether no block below n is flagged.

@@ -1,7 +1,7 @@
 -- `capi::writing::header_from` meets its contract.
 -- Assumes nothing.
 use mathlib.Core.Path.{◌∙◌}
-use Rattle.packets.specs.Headers.{header_for}
+use Rattle.packets.specs.Headers.{header_for, header_given}
 use Rattle.layouts.specs.Layouts.{header_from}
 use Rattle.capi.proofs.writing.header_from.Goals as goal
 
@@ -13,4 +13,4 @@ returns c =
     let x = c.at-2.ensures in
     let y = c.at-3.ensures in
     let z = c.at-4.ensures in
-    c.for_format.ensures ∙ (λ i. header_for (format i) (common i) (x i) (y i) (z i))
+    c.for_format.ensures ∙ (λ i. header_given (header_for (format i) (common i) (x i) (y i) (z i)))

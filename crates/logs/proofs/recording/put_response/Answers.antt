@@ -1,33 +1,29 @@
 -- `logs::recording::put_response` meets its contract.
 -- Assumes nothing.
 use mathlib.Core.Path.{◌≡◌, sym, ap, ◌∙◌}
-use mathlib.Core.List.{List, append-nil}
+use mathlib.Core.List.{List, [], append-nil}
 use Prim.Native.Nat.{ℕ}
-use lib.ListN.{length, take}
-use lib.Seq.{take_at}
-use Rattle.transactions.specs.Answers.{Said}
+use Rattle.std.specs.Prelude.{Option}
+use Rattle.transactions.specs.Answers.{Said, refused, response, block_said, given_said}
 use Rattle.logs.specs.Log.{answer, code_of, contents_of, line_octets, line_in}
-use Rattle.logs.proofs.Lines.{said-refused, said-header, said_both}
 use Rattle.logs.proofs.recording.put_response.Goals as goal
 
-pub returns-then-number-ne0 : goal.returns-then-number-ne0
-returns-then-number-ne0 c = c.put_refusal.ensures
-    ∙ sym (ap (λ (s : Said). line_in (answer s)) (said-refused c.args.r c.if-number-ne0.true))
+pub returns-in-None : goal.returns-in-None
+unfolding line_in code_of contents_of given_said block_said
+returns-in-None c =
+    let r = c.in-Ok.r in
+    let said : given_said c.args.given ≡ response r.header [] = ap given_said c.in-Ok.is ∙ ap (λ (b : Option (List ℕ)). response r.header (block_said b)) c.in-None.is in
+    c.put.ensures ∙ ap (λ (os : List ℕ). line_octets 6 os) (sym (append-nil r.header)) ∙ sym (ap (λ (s : Said). line_in (answer s)) said)
 
-pub returns-then-r-eq0 : goal.returns-then-r-eq0
-unfolding line_in code_of contents_of
-returns-then-r-eq0 c = let r = c.args.r in
-    let b = c.both-octets in
-    let h : length r.header ≡ 12 = c.well_formed.1.0.1.1.1.0.1.0.1 in
-    c.put.ensures
-    ∙ ap (λ (os : List ℕ). line_octets 6 os)
-    (ap (λ (os : List ℕ). take 12 os) b.ensures ∙ take_at r.header r.block 12 h ∙ sym (append-nil r.header))
-    ∙ sym (ap (λ (s : Said). line_in (answer s)) (said-header r c.if-number-ne0.false c.if-r-eq0.true))
+pub returns-in-Some : goal.returns-in-Some
+unfolding line_in code_of contents_of given_said block_said
+returns-in-Some c =
+    let r = c.in-Ok.r in
+    let said : given_said c.args.given ≡ response r.header c.in-Some.block =
+    ap given_said c.in-Ok.is ∙ ap (λ (b : Option (List ℕ)). response r.header (block_said b)) c.in-Some.is in
+    c.put-in-Some.ensures ∙ ap (λ (os : List ℕ). line_octets 6 os) c.both.ensures ∙ sym (ap (λ (s : Said). line_in (answer s)) said)
 
-pub returns : goal.returns
-unfolding line_in code_of contents_of
-returns c = let r = c.args.r in
-    let b = c.both-octets in
-    let k : length r.block ≡ 12 = c.well_formed.1.0.1.1.1.1.1.0.1.0.1 in
-    c.put-2.ensures ∙ ap (λ (os : List ℕ). line_octets 6 os) b.ensures
-    ∙ sym (ap (λ (s : Said). line_in (answer s)) (said_both r c.if-number-ne0.false k c.if-r-eq0.false))
+pub returns-in-Err : goal.returns-in-Err
+unfolding given_said
+returns-in-Err c =
+    c.put_refusal.ensures ∙ ap (λ (n : ℕ). line_in (answer (refused n))) c.number.ensures ∙ sym (ap (λ (s : Said). line_in (answer s)) (ap given_said c.in-Err.is))

@@ -4,8 +4,8 @@ use mathlib.Core.Path.{◌≡◌, refl, ap, ◌∙◌}
 use mathlib.Core.Logic.{◌≢◌}
 use Prim.Native.Nat.{◌+◌}
 use lib.ListN.{length}
-use Rattle.messages.specs.declared.response.ResponseOctets.{ResponseOctets}
-use Rattle.transactions.specs.Answers.{response_said}
+use Rattle.transactions.specs.Answers.{Said, given_said}
+use Rattle.receiver.proofs.Ends.{end_said}
 use Rattle.receiver_state.specs.Receiver.{store_size}
 use Rattle.history.specs.Run.{after_event, answer_to}
 use Rattle.logs.specs.Log.{answer, line_in, line_of, after_record}
@@ -30,7 +30,7 @@ returns-then-n-eq0 c = let a = c.args in
     let header = c.if-kind-eq0.false in
     let block = c.if-kind-eq1.false in
     rw (end_kind a.kind a.octets.now header block c.if-kind-eq2.true c.if-n-eq0.true)
-    (refl, refl, c.put_response.ensures ∙ ap (λ (r : ResponseOctets). line_in (answer (response_said r))) c.on_end.ensures)
+    (refl, refl, c.put_response.ensures ∙ ap (λ (s : Said). line_in (answer s)) (ap given_said c.on_end.ensures ∙ end_said a.rx))
 
 pub returns-then-n : goal.returns-then-n
 returns-then-n c = let a = c.args in

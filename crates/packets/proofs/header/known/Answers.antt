@@ -1,13 +1,13 @@
 -- `packets::header::known` meets its contract.
 -- Assumes nothing.
-use borrow.Author.Tests.{eq-eqb, ne_eqb}
+use Rattle.std.proofs.Common.{rules}
 use Rattle.packets.specs.Headers.{known_format}
 use Rattle.packets.proofs.header.known.Goals as goal
 
-pub returns-then-format-eq0 : goal.returns-then-format-eq0
+pub returns-then-format-ne0 : goal.returns-then-format-ne0
 unfolding known_format
-returns-then-format-eq0 c = rw (eq-eqb _ 0 c.if-format-eq0.true)
+returns-then-format-ne0 c = search rules
 
-pub returns : goal.returns
+pub returns-else-format-ne0 : goal.returns-else-format-ne0
 unfolding known_format
-returns c = rw (ne_eqb _ 0 c.if-format-eq0.false)
+returns-else-format-ne0 c = search rules

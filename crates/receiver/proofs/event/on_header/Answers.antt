@@ -10,12 +10,13 @@ returns-then-not-is_good c =
     let a = c.args in
     header_promise a.rx a.header.now _ (c.refused.ensures ∙ header_not_good a.rx a.header.now (sym c.is_good.ensures ∙ c.if-not-is_good.true))
 
-pub returns-in-Accepted : goal.returns-in-Accepted
-returns-in-Accepted c =
+pub returns-in-Ok : goal.returns-in-Ok
+returns-in-Ok c =
     let a = c.args in
-    header_promise a.rx a.header.now _ (c.heard.ensures ∙ header_heard a.rx a.header.now (sym c.is_good.ensures ∙ c.if-not-is_good.false) _ _ (sym c.in-Accepted.is ∙ c.hear.ensures))
+    header_promise a.rx a.header.now _ (c.heard.ensures ∙ header_heard a.rx a.header.now (sym c.is_good.ensures ∙ c.if-not-is_good.false) _ (sym c.hear.ensures ∙ c.in-Ok.is))
 
-pub returns-in-Refused : goal.returns-in-Refused
-returns-in-Refused c =
+pub returns-in-Err : goal.returns-in-Err
+returns-in-Err c =
     let a = c.args in
-    header_promise a.rx a.header.now _ (c.refused-in-Refused.ensures ∙ header_unheard a.rx a.header.now (sym c.is_good.ensures ∙ c.if-not-is_good.false) _ (sym c.in-Refused.is ∙ c.hear.ensures))
+    header_promise a.rx a.header.now _
+    (c.refused-in-Err.ensures ∙ header_unheard a.rx a.header.now (sym c.is_good.ensures ∙ c.if-not-is_good.false) _ _ (sym c.hear.ensures ∙ c.in-Err.is) c.number.ensures)

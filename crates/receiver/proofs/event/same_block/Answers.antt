@@ -1,25 +1,21 @@
 -- `receiver::event::same_block` meets its contract.
 -- Assumes nothing.
-use mathlib.Core.Path.{refl, sym, ◌∙◌}
-use Prim.Native.Nat.{◌-◌}
+use mathlib.Core.Path.{◌≡◌, ap, ◌∙◌}
+use Prim.Native.Nat.{ℕ, ◌+◌, ◌*◌, ◌-◌}
 use native.Mathlib.Omega.{arith}
-use Rattle.transactions.specs.Transactions.{same_data}
-use Rattle.foundation.proofs.Order.{every_stops, every_goes}
-use Rattle.receiver.proofs.StoreBlocks.{same_at, octet_same, octet_differs}
+use lib.Dec.{eqb}
+use lib.ListN.{length, take, drop}
+use lib.Pointwise.{pointwise}
+use borrow.Author.Rules.{rules}
+use Rattle.receiver_state.specs.Receiver.{block_at}
+use Rattle.receiver.proofs.StoreBlocks.{slices_same}
 use Rattle.receiver.proofs.event.same_block.Goals as goal
 
-pub loop-i-init : goal.loop-i-init
-unfolding same_data
-loop-i-init c = (omega arith, refl)
-
-pub returns-then-store-n : goal.returns-then-store-n
-returns-then-store-n c =
-    let l = c.loop-i in
+pub returns : goal.returns
+unfolding block_at
+returns c =
     let a = c.args in
-    sym (l.invariant.1 ∙ every_stops (same_at a.store.now a.n a.octets) l.i (omega arith) (octet_differs a.store.now a.n a.octets (l.i - 1) (omega arith) c.if-store-n.true))
-
-pub loop-i-preserved : goal.loop-i-preserved
-loop-i-preserved c =
-    let l = c.loop-i in
-    let a = c.args in
-    (omega arith, l.invariant.1 ∙ every_goes (same_at a.store.now a.n a.octets) l.i (omega arith) (octet_same a.store.now a.n a.octets (l.i - 1) (omega arith) c.if-store-n.false))
+    let ten : length a.octets ≡ 10 = search rules in
+    let size : 10 * a.n + 10 - 10 * a.n ≡ 10 = omega arith in
+    c.eq.ensures ∙ ap (λ (k : ℕ). pointwise eqb (take k (drop (10 * a.n) a.store.now)) a.octets) size
+    ∙ slices_same a.store.now a.n a.octets c.requires ten

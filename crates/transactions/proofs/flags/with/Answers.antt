@@ -9,12 +9,15 @@ use lib.ListN.{get_or}
 use borrow.Author.Rules.{elem_Fits}
 use Rattle.transactions.proofs.FlagOctets.{past_with, held_with, more_with, room_with}
 use Rattle.transactions.proofs.flags.with.Goals as goal
+use Rattle.transactions.proofs.flags.with.Goals.{then-n-ge-FLAGS-via-then-n-ge-FLAGS, then-n-ge-FLAGS-via-else-n-ge-FLAGS+then-is_set}
 
 pub returns-then-n-ge-FLAGS : goal.returns-then-n-ge-FLAGS
-returns-then-n-ge-FLAGS c = let a = c.args in sym (past_with a.flags a.n (omega arith))
-
-pub returns-then-is_set : goal.returns-then-is_set
-returns-then-is_set c = let a = c.args in sym (held_with a.flags a.n (sym c.is_set.ensures ∙ c.if-is_set.true))
+returns-then-n-ge-FLAGS c =
+    let a = c.args in
+    elim c.then-n-ge-FLAGS.branch [
+      | then-n-ge-FLAGS-via-then-n-ge-FLAGS w ↦ let l = w.if-n-ge-FLAGS.true in sym (past_with a.flags a.n (omega arith))
+      | then-n-ge-FLAGS-via-else-n-ge-FLAGS+then-is_set w ↦ sym (held_with a.flags a.n (sym w.is_set.ensures ∙ w.if-is_set.true))
+    ]
 
 pub overflow_add-next : goal.overflow_add-next
 overflow_add-next c =

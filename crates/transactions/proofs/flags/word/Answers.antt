@@ -1,5 +1,6 @@
 -- `transactions::flags::word` meets its contract.
 -- Assumes nothing.
+use mathlib.Core.Path.{refl}
 use Prim.Native.Nat.{ℕ, ◌<◌}
 use native.Mathlib.Omega.{arith}
 use mir.Syntax.{w8}
@@ -14,16 +15,16 @@ octet c i = (elem_Fits w8 w8 c.args.flags _ i c.well_formed.0.1.1 tt).fits
 
 pub loop-k-init : goal.loop-k-init
 unfolding weights
-loop-k-init c = omega arith
+loop-k-init c = refl
 
 pub overflow_add-w-in-loop-k : goal.overflow_add-w-in-loop-k
 overflow_add-w-in-loop-k c =
     let l = c.loop-k in
     let a = c.args in
-    record { fits = word_room a.flags (octet c) a.j l.k l.w (omega arith) l.invariant.1 }
+    record { fits = word_room a.flags (octet c) a.j l.k l.w (omega arith) l.invariant }
 
 pub loop-k-preserved : goal.loop-k-preserved
 loop-k-preserved c =
     let l = c.loop-k in
     let a = c.args in
-    (omega arith, word_more a.flags (octet c) a.j l.k l.w (omega arith) l.invariant.1)
+    word_more a.flags (octet c) a.j l.k l.w (omega arith) l.invariant

@@ -1,12 +1,9 @@
 -- `transactions::flags::word` meets its contract.
 -- Assumes nothing.
 use mathlib.Core.Path.{◌≡◌}
-use Prim.Native.Nat.{◌*◌, ◌-◌, ◌≤◌}
+use Prim.Native.Nat.{◌*◌}
 use Rattle.transactions.specs.Flags.{flagged, weights}
 use Rattle.transactions.proofs.flags.word.Given as goal
 
 abbrev pub invariant-loop-k : goal.invariant-loop-k
-invariant-loop-k l = (l.k ≤ 8) × (l.w ≡ weights (flagged l.flags) (64 * l.j) (8 * l.k))
-
-abbrev pub decreases-loop-k : goal.decreases-loop-k
-decreases-loop-k l = 8 - l.k
+invariant-loop-k l = l.w ≡ weights (flagged l.flags) (64 * l.j) (8 * l.k)

@@ -4,7 +4,7 @@
 use mathlib.Core.Path.{◌≡◌}
 use mathlib.Core.Bool.{Bool, cond, true}
 use mathlib.Core.List.{List}
-use Prim.Native.Nat.{ℕ, ◌*◌, ◌-◌, ◌≤◌}
+use Prim.Native.Nat.{ℕ, ◌*◌}
 use lib.Dec.{leb}
 use Rattle.transactions.specs.Flags.{flagged, weights}
 use Rattle.transactions.proofs.response.sack_octet.Given as goal
@@ -13,7 +13,4 @@ abbrev pub is_one : List ℕ → ℕ → ℕ → Bool
 is_one flags blocks n = cond (flagged flags n) true (leb blocks n)
 
 abbrev pub invariant-loop-k : goal.invariant-loop-k
-invariant-loop-k l = (l.k ≤ 8) × (l.octet ≡ weights (is_one l.flags l.blocks) (8 * l.j) l.k)
-
-abbrev pub decreases-loop-k : goal.decreases-loop-k
-decreases-loop-k l = 8 - l.k
+invariant-loop-k l = l.octet ≡ weights (is_one l.flags l.blocks) (8 * l.j) l.k
