@@ -107,7 +107,7 @@ fn message_pairs(octets: &[u8]) -> u32
     let (_, words) = octets[..even].as_rchunks::<4>();
     for word in words {
         let [a, b, c, d] = *word;
-        r = folds::message::times_word(&table, r ^ u32::from_be_bytes([b, a, d, c]));
+        r = folds::message::times_word(&table, r ^ u32::from_le_bytes([c, d, a, b]));
     }
     r
 }

@@ -141,7 +141,7 @@ pub fn table() -> [u32; 128]
 }
 
 // The entries of a table of 128 for each four bits of x, added; with that table x times x^32. 0 for a table of another size.
-// The table is lent, since each call that names it makes it anew.
+// The table is lent, since each call that names it makes it anew; it is a slice, since an array would leave callers fewer arguments.
 pub fn times_word(table: &[u32], x: u32) -> u32
     ensures { result ≡ cond (eqb (length table.now) 128) (looked table.now x) 0 }
 {

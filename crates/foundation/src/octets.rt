@@ -66,7 +66,8 @@ pub fn word_at(octets: &[u8], i: usize) -> u64
     }
 }
 
-// Octets written over those at a place, where they fit; else nothing changes.
+// Octets written over those at a place, where they fit; else nothing changes. By a range: std says nothing of what get_mut lends but its
+// length.
 pub fn put(to: &mut [u8], at: usize, octets: &[u8])
     ensures { to.new ≡ put·octets to.old at octets.now }
 {
