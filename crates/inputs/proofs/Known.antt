@@ -1,6 +1,6 @@
 -- Octets that are read from a reader whose octets are known: those that stand behind the first ones, and all of them.
 -- Assumes nothing.
-use Rattle.std.proofs.Common.{◌≡◌, ℕ, ◌+◌, ◌-◌, ◌%◌, ◌^◌, ◌≤◌, ◌<◌, Bool, true, false, eqb, List, [], ◌++◌, append-nil, IfSome, None, Some, length, take, drop, refl, sym, ap, subst, arith, ◌∙◌}
+use Rattle.std.proofs.Common.{◌≡◌, ℕ, ◌+◌, ◌-◌, ◌%◌, ◌^◌, ◌≤◌, ◌<◌, Bool, true, false, eqb, List, [], ◌++◌, append-nil, IfSome, None, Some, length, take, drop, refl, sym, ap, subst, arith, ◌∙◌, le-ltb, lt-ltb}
 use Rattle.std.proofs.lemmas.List.{drop-take, take-take, take-append-drop}
 use Rattle.std.proofs.Math.Seq.{drop-append_seam, take-append-le, length-take-le}
 use Rattle.std.proofs.KnownBytes.{Consumes-nil, Consumes-trans, Consumes-whole, Appends-nil, Appends-trans}
@@ -10,7 +10,7 @@ use Rattle.std.specs.declared.option.Option.{Option}
 use Rattle.inputs.specs.Inputs.{ReadBehind}
 use Rattle.inputs.specs.Parts.{PrintsTurn, Between}
 use Rattle.inputs.specs.declared.printing.Turn.{Turn}
-use Rattle.inputs.specs.Inputs.{AllWritten}
+use Rattle.inputs.specs.Inputs.{AllWritten, behind_own, WrittenBehind}
 use Rattle.inputs.proofs.Turns.{length_none, underway_start, underway_answered, underway_more, length_new, behind_rest}
 use Rattle.foundation.proofs.OctetLists.{Octets, octets-take, octets-drop}
 use borrow.Author.Tests.{eqb-true, ltb-true, ltb-false}
@@ -126,15 +126,6 @@ module _ {S : Type 0} (text : S → List ℕ → List ℕ) (first : S) (from to 
       Consumes-whole from from' u.read (λ xs. Octets xs × Appends to to'' (text first xs)) b.1 (b.3 e)
       (u.octets-read, subst (Appends to to'') (sym whole) (Appends-trans to to' to'' u.written (text now []) b.2 more))
 
-  -- the same text by another definition
-  pub all_as : (to'' : Option (List ℕ)) {T : Type 0} (text' : T → List ℕ → List ℕ) (first' : T) → ((os : List ℕ) → Octets os → text' first' os ≡ text first os)
-      → AllWritten text first from to to'' → IfSome from (λ xs. Appends to to'' (text' first' xs))
-  all_as to'' text' first' other = go from
-    where
-      go : (o : Option (List ℕ)) → AllWritten text first o to to'' → IfSome o (λ xs. Appends to to'' (text' first' xs))
-      go None w = tt
-      go (Some xs) w = subst (Appends to to'') (sym (other xs w.0)) w.1
-
 -- what holds of any octets holds of those that are known
 pub every : {A : Type 0} (o : Option A) (P : A → Type 0) → ((x : A) → P x) → IfSome o P
 every None P h = tt
@@ -159,3 +150,35 @@ first_and_rest n P (Some xs) (Some ys) first size e inside taken ended h = go (l
         let few : length (take size first) ≤ n = omega (arith, long, inside) in
         let whole : xs ≡ take size first = taken ∙ ap (λ (y : List ℕ). take size first ++ y) none ∙ append-nil (take size first) in
         rw (whole, take_all n (take size first) few, drop_of_length-le (take size first) {i = n} few) (subst (P (take size first)) none h)
+
+-- ---- behind an own address
+
+module _ {S : Type 0} (text : S → List ℕ → List ℕ) (first : S) (own : List ℕ) where
+  pub behind_short : length own < 3 → (os : List ℕ) → behind_own text own first os ≡ text first []
+  unfolding behind_own
+  behind_short h os = rw (lt-ltb (length own) 3 h)
+
+  pub behind_whole : 3 ≤ length own → (os : List ℕ) → behind_own text own first os ≡ text first os
+  unfolding behind_own
+  behind_whole h os = rw (le-ltb (length own) 3 h)
+
+  module _ (from to to' : Option (List ℕ)) where
+    pub written_short : length own < 3 → Appends to to' (text first []) → WrittenBehind text first own from to to'
+    written_short h w = every from _ (λ os. ((λ l. absurd (omega (arith, l, h))), subst (Appends to to') (sym (behind_short h os)) w))
+
+    pub written_whole : 3 ≤ length own → AllWritten text first from to to' → WrittenBehind text first own from to to'
+    written_whole h = go from
+      where
+        go : (o : Option (List ℕ)) → AllWritten text first o to to' → WrittenBehind text first own o to to'
+        go None w = tt
+        go (Some xs) w = (λ _. w.0, subst (Appends to to') (sym (behind_whole h xs)) w.1)
+
+    -- the same text by another definition
+    pub written_as : {T : Type 0} (text' : T → List ℕ → List ℕ) (first' : T)
+        → ((os : List ℕ) → (3 ≤ length own → Octets os) → text' first' os ≡ behind_own text own first os)
+        → WrittenBehind text first own from to to' → IfSome from (λ xs. Appends to to' (text' first' xs))
+    written_as text' first' other = go from
+      where
+        go : (o : Option (List ℕ)) → WrittenBehind text first own o to to' → IfSome o (λ xs. Appends to to' (text' first' xs))
+        go None w = tt
+        go (Some xs) w = subst (Appends to to') (sym (other xs w.0)) w.1

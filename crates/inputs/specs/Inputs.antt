@@ -1,6 +1,6 @@
 -- What holds of octets that are read behind others, and of a program that has read its input and written its text.
 -- Assumes nothing.
-use Rattle.std.specs.Prelude.{IfSome, ◌≡◌, List, ℕ, ◌%◌, ◌^◌, ◌≤◌, ◌<◌, length, get_or, take}
+use Rattle.std.specs.Prelude.{IfSome, cond, nat_lt, [], ◌≡◌, List, ℕ, ◌%◌, ◌^◌, ◌≤◌, ◌<◌, length, get_or, take}
 use Rattle.std.specs.Io.KnownBytes.{Appends}
 use Rattle.std.specs.declared.option.Option.{Option}
 use Rattle.std.specs.declared.result.Result.{Result}
@@ -35,6 +35,15 @@ pub record ReadAndWritten {S : Type 0} (text : S → List ℕ → List ℕ) (fir
 -- where it is known which octets the reader has left and which the writer holds: the writer holds as many more as the text of all of them is
 abbrev pub AllWritten : {S : Type 0} → (S → List ℕ → List ℕ) → S → Option (List ℕ) → Option (List ℕ) → Option (List ℕ) → Type 0
 AllWritten text first from to to' = IfSome from (λ os. ((i : ℕ) → get_or os i 0 < 256) × Appends to to' (text first os))
+
+-- the text of what stands behind an own address of three octets: where that is cut short, the text of nothing
+unfoldable pub behind_own : {S : Type 0} → (S → List ℕ → List ℕ) → List ℕ → S → List ℕ → List ℕ
+behind_own text own first os = cond (nat_lt (length own) 3) (text first []) (text first os)
+
+-- the same as `AllWritten` behind an own address
+abbrev pub WrittenBehind : {S : Type 0} → (S → List ℕ → List ℕ) → S → List ℕ → Option (List ℕ) → Option (List ℕ) → Option (List ℕ) → Type 0
+WrittenBehind text first own from to to' =
+    IfSome from (λ os. (3 ≤ length own → (i : ℕ) → get_or os i 0 < 256) × Appends to to' (behind_own text own first os))
 
 -- why a stream failed
 abbrev pub failed_by : Failed → Error

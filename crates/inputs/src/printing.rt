@@ -1,7 +1,7 @@
 // A program that makes text of octets, as they come: what is read is handed on, and its text written, before more is read.
 ghost use Rattle.std.specs.Prelude.{◌≡◌, ◌≤◌, ◌<◌, ℕ, List, [], ◌++◌, false, length, take, IfOk, OnOk};
 ghost use Rattle.std.specs.Io.KnownBytes.{Appends};
-ghost use Rattle.inputs.specs.Inputs.{ReadAndWritten, AllWritten, failed_by};
+ghost use Rattle.inputs.specs.Inputs.{ReadAndWritten, AllWritten, behind_own, WrittenBehind, failed_by};
 ghost use Rattle.inputs.specs.Parts.{Prints, PrintsTurn};
 
 use super::{Unread, read_behind, to_front};
@@ -16,6 +16,9 @@ const TEXT: usize = 65536;
 
 // The most octets of a last line.
 const END: usize = 67;
+
+// Octets of an own address.
+pub const ADDRESS: usize = 3;
 
 // How many of the octets are answered, and where their text ends.
 #[derive(Clone, Copy)]
@@ -150,4 +153,24 @@ pub fn run<R: Read, W: Write, P: Printer>(
         size = more;
     }
     Err(Failed::Input(io::Error::other("too many turns")))
+}
+
+// The same behind an own address: where that is cut short nothing is read, and there is nothing but the text at the end.
+pub fn run_behind<R: Read, W: Write, P: Printer>(
+    from: &mut R,
+    to: &mut W,
+    own: &[u8],
+    printer: &mut P,
+) -> Result<Ended, Failed>
+    ensures counted { IfOk result (λ e. ReadAndWritten (behind_own P.whole own.now) printer.old e.read e.written) }
+    ensures known { OnOk result (WrittenBehind P.whole printer.old own.now (R.remaining from.old) (W.contents to.old) (W.contents to.new)) }
+{
+    if own.len() < ADDRESS {
+        let end = close(to, printer)?;
+        return Ok(Ended {
+            read: 0,
+            written: end as u64,
+        });
+    }
+    run(from, to, printer)
 }

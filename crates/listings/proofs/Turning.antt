@@ -1,6 +1,6 @@
 -- A listing: how it begins and how it ends, and that a turn takes what there is room for.
 -- Assumes nothing.
-use Rattle.std.proofs.Common.{◌≡◌, ℕ, ◌*◌, ◌/◌, min, ◌∙◌, ◌^◌, ◌<◌, ◌≤◌, Bool, false, List, [], ◌++◌, length, replicate, sym, refl, ap, ap₂, arith, le-ltb, lt-ltb}
+use Rattle.std.proofs.Common.{◌≡◌, ℕ, ◌*◌, ◌/◌, min, ◌∙◌, ◌^◌, ◌<◌, ◌≤◌, Bool, true, false, nat_lt, List, [], ◌++◌, length, replicate, sym, refl, ap, ap₂, arith}
 use lib.ListN.{length-replicate}
 use borrow.Author.Tests.{eq-eqb, le-leb}
 use Rattle.foundation.specs.Order.{first_failed}
@@ -19,6 +19,7 @@ use Rattle.captures.specs.Rule.{outcomes_by_rule, history_over}
 use Rattle.captures.proofs.Runs.{lines_none}
 use Rattle.captures.proofs.Rule.{by_rule}
 use Rattle.captures.proofs.GoesOn.{counts_go_on}
+use Rattle.inputs.specs.Inputs.{behind_own}
 use Rattle.listings.specs.Listings.{beginning, listing_of}
 use Rattle.listings.specs.declared.Lister.{Lister}
 
@@ -66,13 +67,11 @@ abbrev pub fresh : Listing → Gateway → Lister
 fresh l g = record { listing = l; gateway = g; store = replicate store_size 0 }
 
 -- what is listed from a start is the whole text
-module _ (l : Listing) (own : List ℕ) (g : Gateway) (e : g ≡ started own) where
-  pub listed_whole : 3 ≤ length own → Octets own → (os : List ℕ) → Octets os → listing_of l own os ≡ whole (fresh l g) os
-  unfolding listing_of
-  listed_whole h octets os _ =
-      rw (e, le-ltb (length own) 3 h) (sym (by_the_rule l own (omega (arith, octets 0, octets 1, octets 2)) os))
-
-  -- where the own address is cut short, it is the text at the end
-  pub listed_short : length own < 3 → (os : List ℕ) → whole (fresh l g) [] ≡ listing_of l own os
-  unfolding listing_of started counts_of
-  listed_short h os = rw (e, lt-ltb (length own) 3 h) (printed-none l (beginning own))
+module _ (l : Listing) (own : List ℕ) (g : Gateway) (e : g ≡ started own) (octets : Octets own) where
+  pub listed_whole : (os : List ℕ) → listing_of l own os ≡ behind_own whole own (fresh l g) os
+  unfolding listing_of behind_own started counts_of
+  listed_whole os = go (nat_lt (length own) 3) refl
+    where
+      go : (b : Bool) → nat_lt (length own) 3 ≡ b → listing_of l own os ≡ behind_own whole own (fresh l g) os
+      go true t = rw (t, e) (sym (printed-none l (beginning own)))
+      go false f = rw (f, e) (sym (by_the_rule l own (omega (arith, octets 0, octets 1, octets 2)) os))

@@ -9,12 +9,9 @@ ghost use Rattle.listings.specs.Listings.{WritesListing, ListsKnown, ListsAll};
 use captures::{Gateway, Listing};
 use counting::Counts;
 use inputs::printing;
-use inputs::printing::{Ended, Failed, Printed, Printer};
+use inputs::printing::{ADDRESS, Ended, Failed, Printed, Printer};
 use receiver_state::STORE;
 use std::io::{Read, Write};
-
-// Octets of an own address.
-const ADDRESS: usize = 3;
 
 // What is listed, and the gateway and its store after the datagrams that are answered.
 #[derive(Drop)]
@@ -72,18 +69,11 @@ pub fn run<R: Read, W: Write>(
         gateway: captures::start(own),
         store: [0; STORE],
     };
-    if own.len() < ADDRESS {
-        let end = printing::close(to, &lister)?;
-        return Ok(Ended {
-            read: 0,
-            written: end as u64,
-        });
-    }
-    printing::run(from, to, &mut lister)
+    printing::run_behind(from, to, own, &mut lister)
 }
 
-// The same for an own address that is read too. The program replay has the like of both functions: what is shared is in `inputs`, and to pass
-// these few lines a closure for the start would be no shorter.
+// The same for an own address that is read too. (The program replay has the like: to pass these three lines a closure for what runs would be no
+// shorter.)
 pub fn list<R: Read, W: Write>(from: &mut R, to: &mut W, listing: Listing) -> Result<Ended, Failed>
     ensures { ListsAll listing result (R.remaining from.old) (W.contents to.old) (W.contents to.new) }
 {

@@ -1,9 +1,9 @@
 -- The loop of `run`: how it begins and how it ends.
 -- Assumes nothing.
-use Rattle.std.proofs.Common.{◌≡◌, ℕ, zero, suc, ◌+◌, ◌/◌, drop, ◌^◌, ◌<◌, ◌≤◌, Bool, true, false, List, [], length, replicate, sym, refl, ap, subst, ◌∙◌, arith, le-ltb, lt-ltb}
+use Rattle.std.proofs.Common.{nat_lt, ◌≡◌, ℕ, zero, suc, ◌+◌, ◌/◌, drop, ◌^◌, ◌<◌, ◌≤◌, Bool, true, false, List, [], length, replicate, sym, refl, ap, subst, ◌∙◌, arith}
 use lib.ListN.{length-replicate}
 use lib.Dec.{leb}
-use borrow.Author.Tests.{eq-eqb, le-leb, leb-true, leb-false}
+use borrow.Author.Tests.{eq-eqb, le-leb, leb-true, leb-false, ltb-false}
 use Rattle.foundation.specs.Order.{all, first_failed}
 use Rattle.foundation.proofs.OctetLists.{Octets}
 use Rattle.addresses.specs.Octets.{address_at}
@@ -18,6 +18,7 @@ use Rattle.replays.specs.Text.{report_text, report_room}
 use Rattle.replays.specs.Rule.{lines_from}
 use Rattle.replays.specs.Replay.{ReplayAnswer, lines_given, report_from, replay_number, replayed}
 use Rattle.replays.proofs.Rule.{given-all, by_rule_all}
+use Rattle.inputs.specs.Inputs.{behind_own}
 use Rattle.replay.specs.Reports.{report_of}
 use Rattle.replay.specs.declared.Reporter.{Reporter}
 
@@ -76,13 +77,11 @@ abbrev pub fresh : Receiver → Reporter
 fresh rx = record { receiver = rx; store = replicate store_size 0 }
 
 -- what is reported from a start is the whole text
-pub reported_whole : (own : List ℕ) (rx : Receiver) → rx ≡ (fresh_for (address_at own 0)).receiver → 3 ≤ length own → Octets own → (os : List ℕ) → Octets os
-    → report_of own os ≡ whole (fresh rx) os
-unfolding report_of
-reported_whole own rx e h octets os o =
-    rw (e, le-ltb (length own) 3 h) (sym (by_the_rule own (omega (arith, octets 0, octets 1, octets 2)) os o))
-
--- where the own address is cut short there is none
-pub reported_short : (own : List ℕ) → length own < 3 → (os : List ℕ) → report_of own os ≡ []
-unfolding report_of
-reported_short own h os = rw (lt-ltb (length own) 3 h)
+pub reported_whole : (own : List ℕ) (rx : Receiver) → rx ≡ (fresh_for (address_at own 0)).receiver → Octets own → (os : List ℕ) → (3 ≤ length own → Octets os)
+    → report_of own os ≡ behind_own whole own (fresh rx) os
+unfolding report_of behind_own
+reported_whole own rx e octets os o = go (nat_lt (length own) 3) refl
+  where
+    go : (b : Bool) → nat_lt (length own) 3 ≡ b → report_of own os ≡ behind_own whole own (fresh rx) os
+    go true t = rw t (sym (report_none (state_of rx (replicate store_size 0))))
+    go false f = rw (f, e) (sym (by_the_rule own (omega (arith, octets 0, octets 1, octets 2)) os (o (ltb-false (length own) 3 f))))

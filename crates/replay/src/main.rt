@@ -7,14 +7,11 @@ ghost use Rattle.logs.specs.Log.{state_of};
 ghost use Rattle.replays.specs.Replay.{report_from};
 ghost use Rattle.replay.specs.Reports.{WritesReport, ReportsKnown, ReportsAll};
 
-use inputs::printing::{Ended, Failed, Printed, Printer};
+use inputs::printing::{ADDRESS, Ended, Failed, Printed, Printer};
 use inputs::{printing, programs};
 use receiver_state::{Receiver, STORE};
 use std::env::Env;
 use std::io::{Read, Write};
-
-// Octets of an own address.
-const ADDRESS: usize = 3;
 
 // The receiver and its store after the records that are answered.
 #[derive(Drop)]
@@ -46,17 +43,11 @@ fn run<R: Read, W: Write>(from: &mut R, to: &mut W, own: &[u8]) -> Result<Ended,
     ensures counted { WritesReport own.now result }
     ensures known { ReportsKnown own.now result (R.remaining from.old) (W.contents to.old) (W.contents to.new) }
 {
-    if own.len() < ADDRESS {
-        return Ok(Ended {
-            read: 0,
-            written: 0,
-        });
-    }
     let mut reporter = Reporter {
         receiver: replays::start(own),
         store: [0; STORE],
     };
-    printing::run(from, to, &mut reporter)
+    printing::run_behind(from, to, own, &mut reporter)
 }
 
 // The same for an own address that is read too.
