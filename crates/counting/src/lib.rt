@@ -30,7 +30,7 @@ fn confirmed_number(a: event::Answer) -> u8
     }
 }
 
-// The number of an answer, 0 for none.
+// The number of an answer, 0 for none: a listing prints that 0, so an Option would be undone where it is taken.
 pub fn number_of(a: Answer) -> u8
     ensures { result ≡ answer_number a }
 {

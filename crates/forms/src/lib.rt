@@ -47,7 +47,7 @@ pub fn fresh_form(own: RadioAddress, s0: u8, s1: u8, form: &mut [u8]) -> Result<
 
 // ---- one event
 
-// What is given for a number of the table.
+// What is given for a number of the table: a line in octets holds the number of its refusal.
 #[tactic(auto, unfolding(foundation::specs::Refusals::outcome, foundation::specs::Refusals::refusal))]
 fn given(number: u8) -> Result<(), Refusal>
     ensures { result ≡ outcome number tt }

@@ -21,7 +21,7 @@ use Rattle.history.proofs.Claims.{claims}
 use Rattle.logs.specs.Claims.{RecordRefused}
 use Rattle.logs.specs.Log.{Record, act, none, restart_of, record_of, line_of, after_record, line_size, line_in, record_number, state_of, recorded, recorded_given, record_store, record_line}
 use Rattle.std.specs.Prelude.{Result, Ok, Err, zero, suc}
-use Rattle.std.specs.Result.{result_unwrap_or}
+use Rattle.std.specs.Result.{result_unwrap_or, IsOk}
 use Rattle.foundation.specs.Refusals.{outcome, refusal}
 use Rattle.foundation.specs.declared.refusal.Refusal.{Refusal}
 use Rattle.foundation.specs.declared.refusal.Refusal.TheVariants.{Size}
@@ -67,6 +67,12 @@ module _ (rx : Receiver) (good : receiver_good rx ≡ true) where
       → after_save rx store s0 s1 form ≡ saved rx store s0 s1
   unfolding after_save save_number first_failed
   form_of store s0 s1 form e f = rw (good, eq-eqb (length store) store_size e, eq-eqb (length form) (2 * stored_block) f)
+
+-- saving is not refused
+pub saves : (rx : Receiver) (store form : List ℕ) → receiver_good rx ≡ true → length store ≡ store_size → length form ≡ 2 * stored_block
+    → (r : Result (Unit {0}) Refusal) → r ≡ outcome (save_number rx store form) tt → IsOk r
+unfolding save_number first_failed outcome
+saves rx store form good e f r is = rw (is, good, eq-eqb (length store) store_size e, eq-eqb (length form) (2 * stored_block) f)
 
 -- of a refused restore the receiver that was given is left
 either_kept : (n : ℕ) (a b : Receiver) → result_unwrap_or (outcome n (cond (eqb n 0) a b)) b ≡ cond (eqb n 0) a b

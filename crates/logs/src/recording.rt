@@ -135,7 +135,7 @@ fn record_restart(rx: Receiver, store: &mut [u8], octets: &[u8], line: &mut [u8]
         × (line.new ≡ line_in (line_of (state_of rx store.old) (restart_of octets.now))) }
 {
     let mut form = [0u8; FORM];
-    let _ = stored::saving::save(rx, store, octets[0], octets[1], &mut form);
+    stored::saving::save(rx, store, octets[0], octets[1], &mut form).unwrap();
     put(line, RESTORED, &form);
     foundation::octets::put(store, 0, &octets[2..]);
     let fresh = receiver_state::idle(rx.own);

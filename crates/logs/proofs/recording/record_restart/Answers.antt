@@ -8,8 +8,11 @@ use lib.Seq.{take_all}
 use Rattle.foundation.proofs.Copying.{put_all}
 use Rattle.history.specs.Run.{saved_form}
 use Rattle.logs.specs.Log.{code_of, contents_of, line_octets, line_in, line_of}
-use Rattle.logs.proofs.OneRecord.{form_of, restart-leaves}
+use Rattle.logs.proofs.OneRecord.{form_of, saves, restart-leaves}
 use Rattle.logs.proofs.recording.record_restart.Goals as goal
+
+pub unwrap-requires : goal.unwrap-requires
+unwrap-requires c = saves c.args.rx c.args.store.now _ c.requires.0 c.requires.2 (omega arith) _ c.save.ensures.0
 
 pub returns : goal.returns
 unfolding saved_form line_of line_in code_of contents_of
