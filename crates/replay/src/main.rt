@@ -24,8 +24,7 @@ impl Printer for Reporter {
     ghost whole = { λ s. report_from (state_of s.receiver s.store) };
 
     fn answer(&mut self, octets: &[u8], last: bool, text: &mut [u8]) -> Printed {
-        let replayed =
-            replays::replay(self.receiver, &mut self.store, octets, last, text).unwrap();
+        let replayed = replays::replay(self.receiver, &mut self.store, octets, last, text).unwrap();
         self.receiver = replayed.receiver;
         Printed {
             taken: replayed.taken,

@@ -3,8 +3,8 @@
 use mathlib.Core.Path.{ap, ◌∙◌}
 use Rattle.foundation.specs.Refusals.{number_given}
 use Rattle.foundation.proofs.Refusals.{number_back}
-use Rattle.history.specs.History.{header, block, ended}
-use Rattle.forms.specs.Forms.{an_event, a_datagram}
+use Rattle.history.specs.History.{header}
+use Rattle.forms.specs.Forms.{an_event}
 use Rattle.forms.proofs.Small.{event_small}
 use Rattle.capi.proofs.events.kirruskabe_on_header.Goals as goal
 
