@@ -12,10 +12,10 @@ use std::io::{Read, Write};
 // are written at a time.
 const INPUT: usize = 65538;
 
-const TEXT: usize = 65536;
+pub const TEXT: usize = 65536;
 
 // The most octets of a last line.
-const END: usize = 67;
+pub const END: usize = 67;
 
 // Octets of an own address.
 pub const ADDRESS: usize = 3;
@@ -33,13 +33,11 @@ pub trait Printer {
     ghost whole: { Self → List ℕ → List ℕ };
 
     // Answers octets, as many as there is room for, and writes their text in front. Where nothing follows them, those left over are answered too.
-    fn answer(&mut self, octets: &[u8], last: bool, text: &mut [u8]) -> Printed
-        requires { 65536 ≤ length text.old }
+    fn answer(&mut self, octets: &[u8], last: bool, text: &mut [u8; TEXT]) -> Printed
         ensures { Prints Self.whole self.old octets.now last result self.new text.new };
 
     // The text at the end, in front: where it ends.
-    fn close(&self, text: &mut [u8]) -> usize
-        requires { 67 ≤ length text.old }
+    fn close(&self, text: &mut [u8; END]) -> usize
         ensures { (result ≤ length text.new) × (take result text.new ≡ Self.whole self.now []) };
 }
 
@@ -95,9 +93,9 @@ fn answer<W: Write, P: Printer>(
     input: &mut [u8],
     size: usize,
     last: bool,
-    text: &mut [u8],
+    text: &mut [u8; TEXT],
 ) -> Result<Turn, Failed>
-    requires { (size ≤ length input.old) × (65536 ≤ length text.old) }
+    requires { size ≤ length input.old }
     ensures { IfOk result (λ t. PrintsTurn P.whole printer.old (take size input.old) last t printer.new (take t.kept input.new) (W.contents to.old) (W.contents to.new)) }
 {
     let printed = printer.answer(&input[..size], last, text);

@@ -9,7 +9,7 @@ ghost use Rattle.listings.specs.Listings.{WritesListing, ListsKnown, ListsAll};
 use captures::{Gateway, Listing};
 use counting::Counts;
 use inputs::printing;
-use inputs::printing::{ADDRESS, Ended, Failed, Printed, Printer};
+use inputs::printing::{ADDRESS, END, Ended, Failed, Printed, Printer, TEXT};
 use receiver_state::STORE;
 use std::io::{Read, Write};
 
@@ -24,7 +24,7 @@ struct Lister {
 impl Printer for Lister {
     ghost whole = { λ s. printed s.listing (running s.gateway s.store) };
 
-    fn answer(&mut self, octets: &[u8], last: bool, text: &mut [u8]) -> Printed {
+    fn answer(&mut self, octets: &[u8], last: bool, text: &mut [u8; TEXT]) -> Printed {
         let listed = captures::list(
             self.listing,
             self.gateway,
@@ -41,7 +41,7 @@ impl Printer for Lister {
         }
     }
 
-    fn close(&self, text: &mut [u8]) -> usize {
+    fn close(&self, text: &mut [u8; END]) -> usize {
         close(self.listing, self.gateway.counts, text)
     }
 }

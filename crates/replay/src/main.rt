@@ -7,7 +7,7 @@ ghost use Rattle.logs.specs.Log.{state_of};
 ghost use Rattle.replays.specs.Replay.{report_from};
 ghost use Rattle.replay.specs.Reports.{WritesReport, ReportsKnown, ReportsAll};
 
-use inputs::printing::{ADDRESS, Ended, Failed, Printed, Printer};
+use inputs::printing::{ADDRESS, END, Ended, Failed, Printed, Printer, TEXT};
 use inputs::{printing, programs};
 use receiver_state::{Receiver, STORE};
 use std::env::Env;
@@ -23,7 +23,7 @@ struct Reporter {
 impl Printer for Reporter {
     ghost whole = { λ s. report_from (state_of s.receiver s.store) };
 
-    fn answer(&mut self, octets: &[u8], last: bool, text: &mut [u8]) -> Printed {
+    fn answer(&mut self, octets: &[u8], last: bool, text: &mut [u8; TEXT]) -> Printed {
         let replayed = replays::replay(self.receiver, &mut self.store, octets, last, text).unwrap();
         self.receiver = replayed.receiver;
         Printed {
@@ -32,7 +32,7 @@ impl Printer for Reporter {
         }
     }
 
-    fn close(&self, _text: &mut [u8]) -> usize {
+    fn close(&self, _text: &mut [u8; END]) -> usize {
         0
     }
 }

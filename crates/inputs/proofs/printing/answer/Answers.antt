@@ -12,7 +12,7 @@ returns g c =
     let p = c.answer-printed in
     let f = c.to_front-kept in
     let os = take a.size a.input.now in
-    let inside = length-take-le a.size a.input.now c.requires.0 in (
+    let inside = length-take-le a.size a.input.now c.requires in (
       turn g.P.Printer.whole a.printer.now _ os a.last p.result _ f.result _ p.ensures f.ensures.0 (rest_first os p.result.taken f.result _ _ f.ensures.0 f.ensures.1),
       c.in_ok-put.ensures,
       λ t k. p.ensures.takes_full t (omega (arith, f.ensures.0, k, p.ensures.takes)),

@@ -10,7 +10,7 @@ use Rattle.inputs.proofs.printing.run.Goals as goal
 pub turns-init : goal.turns-init
 turns-init g c =
     let a = c.args in
-    (refl, refl, omega arith, between_start g.P.Printer.whole a.printer.now (g.R.Read.remaining a.from.now) (g.W.Write.contents a.to.now))
+    (refl, omega arith, between_start g.P.Printer.whole a.printer.now (g.R.Read.remaining a.from.now) (g.W.Write.contents a.to.now))
 
 pub turns-preserved-then-turn-size : goal.turns-preserved-then-turn-size
 turns-preserved-then-turn-size g c =
@@ -19,9 +19,9 @@ turns-preserved-then-turn-size g c =
     let w = c.answer in
     let t =
     turned g.P.Printer.whole a.printer.now (g.R.Read.remaining a.from.now) (g.W.Write.contents a.to.now) l.read l.written l.last l.printer l.input l.size
-    (g.R.Read.remaining l.from) (g.W.Write.contents l.to) (g.W.Write.contents w.new.to) l.invariant.3 (omega (arith, l.invariant)) c.in_ok-turn.turn _ _
+    (g.R.Read.remaining l.from) (g.W.Write.contents l.to) (g.W.Write.contents w.new.to) l.invariant.2 (omega (arith, l.invariant)) c.in_ok-turn.turn _ _
     c.in_ok-turn.ensures in
-    (w.auto.input ∙ l.invariant.0, w.auto.text ∙ l.invariant.1, omega (arith, t.fewer, l.invariant.2), t.between)
+    (w.auto.input ∙ l.invariant.0, omega (arith, t.fewer, l.invariant.1), t.between)
 
 pub returns-then-last-clause-counted : goal.returns-then-last-clause-counted
 returns-then-last-clause-counted g c =
@@ -30,7 +30,7 @@ returns-then-last-clause-counted g c =
     let w = c.answer in
     let t =
     turned g.P.Printer.whole a.printer.now (g.R.Read.remaining a.from.now) (g.W.Write.contents a.to.now) l.read l.written l.last l.printer l.input l.size
-    (g.R.Read.remaining l.from) (g.W.Write.contents l.to) (g.W.Write.contents w.new.to) l.invariant.3 (omega (arith, l.invariant)) c.in_ok-turn.turn _ _
+    (g.R.Read.remaining l.from) (g.W.Write.contents l.to) (g.W.Write.contents w.new.to) l.invariant.2 (omega (arith, l.invariant)) c.in_ok-turn.turn _ _
     c.in_ok-turn.ensures in
     underway_over g.P.Printer.whole a.printer.now l.read _ l.last w.new.printer w.new.input c.in_ok-turn.turn.kept t.between.0 c.if-last.true
     (t.none c.if-last.true c.if-turn-size.false) _ (omega (arith, c.in_ok-end.ensures.0))
@@ -42,7 +42,7 @@ returns-then-last-clause-known g c =
     let w = c.answer in
     let t =
     turned g.P.Printer.whole a.printer.now (g.R.Read.remaining a.from.now) (g.W.Write.contents a.to.now) l.read l.written l.last l.printer l.input l.size
-    (g.R.Read.remaining l.from) (g.W.Write.contents l.to) (g.W.Write.contents w.new.to) l.invariant.3 (omega (arith, l.invariant)) c.in_ok-turn.turn _ _
+    (g.R.Read.remaining l.from) (g.W.Write.contents l.to) (g.W.Write.contents w.new.to) l.invariant.2 (omega (arith, l.invariant)) c.in_ok-turn.turn _ _
     c.in_ok-turn.ensures in
     between_over g.P.Printer.whole a.printer.now (g.R.Read.remaining a.from.now) (g.W.Write.contents a.to.now) l.read _ l.last w.new.printer w.new.input
     c.in_ok-turn.turn.kept (g.R.Read.remaining l.from) (g.W.Write.contents w.new.to) (g.W.Write.contents c.close.new.to) t.between c.if-last.true
@@ -55,14 +55,13 @@ turns-preserved g c =
     let w = c.answer in
     let t =
     turned g.P.Printer.whole a.printer.now (g.R.Read.remaining a.from.now) (g.W.Write.contents a.to.now) l.read l.written l.last l.printer l.input l.size
-    (g.R.Read.remaining l.from) (g.W.Write.contents l.to) (g.W.Write.contents w.new.to) l.invariant.3 (omega (arith, l.invariant)) c.in_ok-turn.turn _ _
+    (g.R.Read.remaining l.from) (g.W.Write.contents l.to) (g.W.Write.contents w.new.to) l.invariant.2 (omega (arith, l.invariant)) c.in_ok-turn.turn _ _
     c.in_ok-turn.ensures in
     let r = c.read_behind in
     let m = c.in_ok-more in
     let room = w.auto.input ∙ l.invariant.0 in
-    let inside : l.size ≤ length w.new.input = omega (arith, room, l.invariant.2) in (
+    let inside : l.size ≤ length w.new.input = omega (arith, room, l.invariant.1) in (
       r.auto.input ∙ room,
-      w.auto.text ∙ l.invariant.1,
       omega (arith, room, m.ensures.behind.inside inside),
       between_read g.P.Printer.whole a.printer.now (g.R.Read.remaining a.from.now) (g.W.Write.contents a.to.now) w.new.input l.size m.more r.new.input
           m.ensures.behind inside r.auto.input l.read _ l.last _ c.in_ok-turn.turn.kept (g.R.Read.remaining l.from) (g.R.Read.remaining r.new.reader)

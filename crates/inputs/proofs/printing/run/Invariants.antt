@@ -7,6 +7,6 @@ use Rattle.inputs.proofs.printing.run.Given as goal
 
 abbrev pub invariant-turns : goal.invariant-turns
 invariant-turns g l =
-    (length l.input ≡ 65538) × (length l.text ≡ 65536) × (l.size ≤ 65538)
+    (length l.input ≡ 65538) × (l.size ≤ 65538)
     × Between g.P.Printer.whole l.initial.printer l.read l.written l.last l.printer (take l.size l.input) (g.R.Read.remaining l.initial.from)
     (g.R.Read.remaining l.from) (g.W.Write.contents l.initial.to) (g.W.Write.contents l.to)

@@ -12,7 +12,7 @@ pub unwrap-listed-requires : goal.unwrap-listed-requires
 unwrap-listed-requires c =
     let a = c.args in
     let s = a.self.now in
-    taken_ok s.listing s.gateway s.store a.octets.now a.last a.text.now (omega arith) (line_fits s.listing _ c.requires) _ c.list.ensures.0
+    taken_ok s.listing s.gateway s.store a.octets.now a.last a.text.now (omega arith) (line_fits s.listing (length a.text.now) (omega arith)) _ c.list.ensures.0
 
 pub returns : goal.returns
 returns c =
@@ -21,7 +21,7 @@ returns c =
     let l = c.list in
     let r = c.unwrap-listed.result in
     let room : length s.store ≡ store_size = omega arith in
-    let line = line_fits s.listing _ c.requires in
+    let line = line_fits s.listing (length a.text.now) (omega arith) in
     let same = taken_as s.listing s.gateway s.store a.octets.now a.last a.text.now room line r (sym c.unwrap-listed.ensures ∙ l.ensures.0) in
     let claims : ListClaims s.listing (running s.gateway s.store) a.octets.now a.last a.text.now (record { number = 0; gateway = r.gateway; taken = r.taken; end = r.end }) l.new.store l.new.text =
     subst (λ (x : ListAnswer). ListClaims s.listing (running s.gateway s.store) a.octets.now a.last a.text.now x l.new.store l.new.text) (sym same) l.ensures.3 in

@@ -14,7 +14,7 @@ pub unwrap-replayed-requires : goal.unwrap-replayed-requires
 unwrap-replayed-requires c =
     let a = c.args in
     let s = a.self.now in
-    taken_ok s.receiver s.store a.octets.now a.last a.text.now (omega arith) (omega (arith, c.requires)) _ c.replay.ensures.0
+    taken_ok s.receiver s.store a.octets.now a.last a.text.now (omega arith) (omega arith) _ c.replay.ensures.0
 
 pub returns : goal.returns
 returns c =
@@ -23,7 +23,7 @@ returns c =
     let l = c.replay in
     let r = c.unwrap-replayed.result in
     let room : length s.store ≡ store_size = omega arith in
-    let line : report_room ≤ length a.text.now = omega (arith, c.requires) in
+    let line : report_room ≤ length a.text.now = omega arith in
     let same = taken_as s.receiver s.store a.octets.now a.last a.text.now room line r (sym c.unwrap-replayed.ensures ∙ l.ensures.0) in
     let claims : ReplayClaims (state_of s.receiver s.store) a.octets.now a.last a.text.now (record { number = 0; receiver = r.receiver; taken = r.taken; end = r.end }) l.new.store l.new.text =
     subst (λ (x : ReplayAnswer). ReplayClaims (state_of s.receiver s.store) a.octets.now a.last a.text.now x l.new.store l.new.text) (sym same) l.ensures.3 in
