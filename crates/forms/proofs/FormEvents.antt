@@ -36,7 +36,7 @@ use Rattle.history.specs.Run.{event, State, answer_to, saved_form}
 use Rattle.history.specs.Claims.{Octets}
 use Rattle.history.proofs.Demand3 as demand3
 use Rattle.logs.specs.Log.{Record, act, none, record_of, line_of, after_record, line_in, line_size, state_of}
-use Rattle.logs.proofs.OneRecord.{header-kind, block-kind, end_kind, form_of}
+use Rattle.logs.proofs.OneRecord.{form_of}
 use Rattle.forms.specs.Forms.{state_in, form_number, line_number, Asked, an_event, a_datagram, number_before, carried_by, record_asked, line_asked, state_asked, event_number, form_after, line_after}
 use Rattle.forms.specs.Parts.{AnEvent, Answered, ActsOn, ActsAs, size_number, kind_number}
 use Rattle.forms.proofs.Answers.{line_refused, line_taken, numbered, refused-numbered}
@@ -49,14 +49,26 @@ pub record Happens (r : Record) : Type 0 where
   pub is : r ≡ act (event what)
   pub given : demand3.Given what
 
+end_is : (os : List ℕ) → length os ≡ 0 → record_of 2 os ≡ act (event ended)
+unfolding record_of all
+end_is os e = rw (eq-eqb (length os) 0 e) refl
+
+block_is : (os : List ℕ) → record_of 1 os ≡ act (event (block os))
+unfolding record_of
+block_is os = refl
+
+header_is : (os : List ℕ) → record_of 0 os ≡ act (event (header os))
+unfolding record_of
+header_is os = refl
+
 pub happens : (kind : ℕ) (os : List ℕ) → AnEvent kind os → Octets os → Happens (record_of kind os)
 happens kind os (few, empty) small = go (ℕ_discrete kind 0) (ℕ_discrete kind 1)
   where
     go : Dec (kind ≡ 0) → Dec (kind ≡ 1) → Happens (record_of kind os)
-    go (yes e) d = record { what = header os; is = header-kind kind os e; given = small }
-    go (no n) (yes e) = record { what = block os; is = block-kind kind os n e; given = small }
+    go (yes e) d = record { what = header os; is = rw e (header_is os); given = small }
+    go (no n) (yes e) = record { what = block os; is = rw e (block_is os); given = small }
     go (no n) (no m) =
-        let two : kind ≡ 2 = omega arith in record { what = ended; is = end_kind kind os n m two (empty two); given = tt }
+        let two : kind ≡ 2 = omega arith in record { what = ended; is = rw two (end_is os (empty two)); given = tt }
 
 -- ---- the answer
 
@@ -200,16 +212,7 @@ module _ (form : List ℕ) (s0 s1 : ℕ) (line : List ℕ) (a : Asked) where
             let b : Answered (state_in form) (record_asked a) s0 s1 form line given form' line' = rw (is, ← same) at h in
             rw e b
 
--- ---- the records of events
-
-end_is : record_of 2 [] ≡ act (event ended)
-end_is = end_kind 2 [] (λ z. omega arith) (λ z. omega arith) refl refl
-
-block_is : (os : List ℕ) → record_of 1 os ≡ act (event (block os))
-block_is os = block-kind 1 os (λ z. omega arith) refl
-
-header_is : (os : List ℕ) → record_of 0 os ≡ act (event (header os))
-header_is os = header-kind 0 os refl
+-- ---- events by their records
 
 module _ (os form : List ℕ) (s0 s1 : ℕ) (line : List ℕ) (n : Result (Unit {0}) Refusal) (form' line' : List ℕ) where
   pub header_acts : (k : Result (Unit {0}) Refusal) → k ≡ outcome (size_number os) tt → ActsAs k 0 os s0 s1 form line n form' line'
@@ -225,7 +228,7 @@ module _ (os form : List ℕ) (s0 s1 : ℕ) (line : List ℕ) (n : Result (Unit 
 module _ (form : List ℕ) (s0 s1 : ℕ) (line : List ℕ) (n : Result (Unit {0}) Refusal) (form' line' : List ℕ) where
   pub end_acts : ActsAs (Ok tt) 2 [] s0 s1 form line n form' line' → ActsOn (an_event ended) s0 s1 form line n form' line'
   unfolding number_before record_asked outcome
-  end_acts g = g (an_event ended) refl (sym end_is)
+  end_acts g = g (an_event ended) refl (sym (end_is [] refl))
 
 -- ---- a datagram
 

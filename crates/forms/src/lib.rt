@@ -18,19 +18,20 @@ ghost use Rattle.forms.specs.Parts.{AnEvent, Answered, ActsAs, size_number, kind
 use addresses::RadioAddress;
 use bursts::burst::Kind;
 use foundation::refusal::Refusal;
+use logs::numbers::{self, Code};
 use logs::recording::LINE;
 use receiver_state::{Receiver, STORE};
 use stored::saving::FORM;
 
 // The kinds of records that are events.
-const HEADER: u8 = 0;
+const HEADER: u8 = numbers::Kind::Header as u8;
 
-const BLOCK: u8 = 1;
+const BLOCK: u8 = numbers::Kind::Block as u8;
 
-const END: u8 = 2;
+const END: u8 = numbers::Kind::End as u8;
 
 // The kind that no record has.
-const NONE: u8 = 255;
+const NONE: u8 = numbers::Kind::Other as u8;
 
 // The stored form of a fresh receiver; refused for lent octets of another size, and for an address over 24 bits.
 pub fn fresh_form(own: RadioAddress, s0: u8, s1: u8, form: &mut [u8]) -> Result<(), Refusal>
@@ -104,7 +105,7 @@ fn act_on(
 {
     let mut answer = [0u8; LINE];
     let next = logs::recording::record(rx, store, kind, octets, &mut answer)?;
-    if answer[0] == 0 {
+    if answer[0] == Code::Refused.number() {
         return given(answer[3]);
     }
     stored::saving::save(next, store, s0, s1, form)?;

@@ -2,7 +2,7 @@
 -- Assumes nothing.
 use mathlib.Core.Path.{◌≡◌, refl}
 use mathlib.Core.Bool.{true, false, cond}
-use mathlib.Core.List.{List, [], ◌∷◌}
+use mathlib.Core.List.{List}
 use mathlib.Core.Logic.{◌≢◌}
 use Prim.Native.Nat.{ℕ, ◌+◌, ◌*◌}
 use native.Mathlib.Omega.{arith}
@@ -11,14 +11,14 @@ use lib.ListN.{length, get_or, drop}
 use borrow.Author.Tests.{eq-eqb, ne_eqb, eqb-true}
 use Rattle.foundation.specs.Order.{first_failed, all}
 use Rattle.foundation.proofs.Tests.{either}
-use Rattle.foundation.proofs.Order.{all_nil, all_cons, all_fails}
 use Rattle.receiver_state.specs.Receiver.{store_size, fresh_receiver, receiver_good}
 use Rattle.receiver_state.specs.declared.Receiver.{Receiver}
 use Rattle.stored.specs.Stored.{stored_block, saved, save_number, after_save, restored, restored_given, after_restore}
-use Rattle.history.specs.History.{header, block, ended}
 use Rattle.history.specs.Run.{event, restart, State, saved_form, after_restart}
 use Rattle.history.proofs.Claims.{claims}
 use Rattle.logs.specs.Claims.{RecordRefused}
+use Rattle.logs.specs.Numbers.{kind_of}
+use Rattle.logs.specs.Parts.{record_by}
 use Rattle.logs.specs.Log.{Record, act, none, restart_of, record_of, line_of, after_record, line_size, line_in, record_number, state_of, recorded, recorded_given, record_store, record_line}
 use Rattle.std.specs.Prelude.{Result, Ok, Err, zero, suc}
 use Rattle.std.specs.Result.{result_unwrap_or, IsOk}
@@ -28,37 +28,16 @@ use Rattle.foundation.specs.declared.refusal.Refusal.TheVariants.{Size}
 
 -- ---- kinds
 
-both_hold : (a b : ℕ) (c d : ℕ) → a ≡ b → c ≡ d → all (eqb a b ∷ eqb c d ∷ []) ≡ true
-both_hold a b c d e f = all_cons _ (eq-eqb a b e) (all_cons _ (eq-eqb c d f) all_nil)
-
-one_fails : (a b : ℕ) (c d : ℕ) → (a ≡ b → c ≢ d) → all (eqb a b ∷ eqb c d ∷ []) ≡ false
-one_fails a b c d h = either (eqb a b) (λ t. all_fails _ 1 (ne_eqb c d (h (eqb-true a b t)))) (λ t. all_fails _ 0 t)
-
-module _ (kind : ℕ) (os : List ℕ) where
-  pub header-kind : kind ≡ 0 → record_of kind os ≡ act (event (header os))
-  unfolding record_of
-  header-kind e = rw (eq-eqb kind 0 e)
-
-  module _ (no_header : kind ≢ 0) where
-    pub block-kind : kind ≡ 1 → record_of kind os ≡ act (event (block os))
-    unfolding record_of
-    block-kind e = rw (ne_eqb kind 0 no_header, eq-eqb kind 1 e)
-
-    module _ (no_block : kind ≢ 1) where
-      pub end_kind : kind ≡ 2 → length os ≡ 0 → record_of kind os ≡ act (event ended)
-      unfolding record_of
-      end_kind e l = rw (ne_eqb kind 0 no_header, ne_eqb kind 1 no_block, both_hold kind 2 (length os) 0 e l)
-
-      module _ (no_end : kind ≡ 2 → length os ≢ 0) where
-        pub restart-kind : kind ≡ 3 → length os ≡ 2 + store_size → record_of kind os ≡ restart_of os
-        unfolding record_of
-        restart-kind e l =
-            rw (ne_eqb kind 0 no_header, ne_eqb kind 1 no_block, one_fails kind 2 (length os) 0 no_end, both_hold kind 3 (length os) (2 + store_size) e l)
-
-        pub no_kind : (kind ≡ 3 → length os ≢ 2 + store_size) → record_of kind os ≡ none
-        unfolding record_of
-        no_kind h =
-            rw (ne_eqb kind 0 no_header, ne_eqb kind 1 no_block, one_fails kind 2 (length os) 0 no_end, one_fails kind 3 (length os) (2 + store_size) h)
+-- a record is the one of the kind of its number
+pub by_kind : (n : ℕ) (os : List ℕ) → record_by (kind_of n) os ≡ record_of n os
+unfolding record_of record_by kind_of all
+by_kind n os =
+    either (eqb n 0) (λ a. rw a refl)
+    (λ a. either (eqb n 1) (λ b. rw (a, b) refl)
+    (λ b. either (eqb n 2)
+    (λ c. either (eqb (length os) 0) (λ d. rw (a, b, c, d) refl) (λ d. rw (a, b, c, d, ne_eqb n 3 (λ e. omega (arith, eqb-true n 2 c))) refl))
+    (λ c. either (eqb n 3)
+    (λ d. either (eqb (length os) (2 + store_size)) (λ e. rw (a, b, c, d, e) refl) (λ e. rw (a, b, c, d, e) refl)) (λ d. rw (a, b, c, d) refl))))
 
 -- ---- a restart
 

@@ -1,2 +1,4 @@
+pub mod Numbers
 pub mod Log
 pub mod Claims
+pub mod Parts

@@ -8,8 +8,11 @@ ghost use Rattle.stored.specs.Stored.{stored_block};
 ghost use Rattle.history.specs.History.{header, block};
 ghost use Rattle.history.specs.Run.{event};
 ghost use Rattle.logs.specs.Claims.{RecordRefused};
+ghost use Rattle.logs.specs.Numbers.{code_number};
+ghost use Rattle.logs.specs.Parts.{record_by};
 ghost use Rattle.logs.specs.Log.{line_size, answer, act, record_of, line_octets, line_in, line_of, restart_of, after_record, state_of, recorded, recorded_given, record_store, record_line};
 
+use super::numbers::{Code, Kind};
 use foundation::refusal::Refusal;
 use messages::response::ResponseOctets;
 use receiver::event::Answer;
@@ -21,30 +24,13 @@ pub const LINE: usize = 3 + CONTENTS;
 
 const CONTENTS: usize = FORM;
 
-// The codes of lines.
-const REFUSED: u8 = 0;
-
-const OPENED: u8 = 1;
-
-const REPEAT: u8 = 2;
-
-const STORED: u8 = 3;
-
-const BAD: u8 = 4;
-
-const MESSAGE: u8 = 5;
-
-const RESPONSE: u8 = 6;
-
-const RESTORED: u8 = 7;
-
 // Writes a line of this code and these contents.
-fn put(line: &mut [u8], code: u8, contents: &[u8])
+fn put(line: &mut [u8], code: Code, contents: &[u8])
     requires { (length line.old ≡ line_size) × (length contents.now ≤ 2 * stored_block) }
-    ensures { line.new ≡ line_octets code contents.now }
+    ensures { line.new ≡ line_octets (code_number code) contents.now }
 {
     let n = contents.len();
-    let head = [code, (n / 256) as u8, (n % 256) as u8];
+    let head = [code.number(), (n / 256) as u8, (n % 256) as u8];
     let zeros = [0u8; CONTENTS];
     foundation::octets::put(line, 0, &head);
     foundation::octets::put(line, 3, contents);
@@ -56,7 +42,7 @@ fn put_refusal(line: &mut [u8], number: u8)
     requires { length line.old ≡ line_size }
     ensures { line.new ≡ line_in (answer (refused number)) }
 {
-    put(line, REFUSED, &[number]);
+    put(line, Code::Refused, &[number]);
 }
 
 // The line of an answer to a header or a block; a message stands in the store.
@@ -66,13 +52,13 @@ fn put_answer(line: &mut [u8], a: Answer, store: &[u8])
 {
     match a {
         Answer::Refused(number) => put_refusal(line, number),
-        Answer::Opened => put(line, OPENED, b""),
-        Answer::Repeat => put(line, REPEAT, b""),
-        Answer::Stored => put(line, STORED, b""),
-        Answer::Bad => put(line, BAD, b""),
+        Answer::Opened => put(line, Code::Opened, b""),
+        Answer::Repeat => put(line, Code::Repeat, b""),
+        Answer::Stored => put(line, Code::Stored, b""),
+        Answer::Bad => put(line, Code::Bad, b""),
         Answer::Message(n) => {
             let end = foundation::octets::shorter(n, store.len());
-            put(line, MESSAGE, &store[..end]);
+            put(line, Code::Message, &store[..end]);
         }
     }
 }
@@ -94,8 +80,8 @@ fn put_response(line: &mut [u8], given: Result<ResponseOctets, Refusal>)
 {
     match given {
         Ok(r) => match r.block {
-            None => put(line, RESPONSE, &r.header),
-            Some(block) => put(line, RESPONSE, &both(r.header, block)),
+            None => put(line, Code::Response, &r.header),
+            Some(block) => put(line, Code::Response, &both(r.header, block)),
         },
         Err(refusal) => put_refusal(line, refusal.number()),
     }
@@ -136,39 +122,39 @@ fn record_restart(rx: Receiver, store: &mut [u8], octets: &[u8], line: &mut [u8]
 {
     let mut form = [0u8; FORM];
     stored::saving::save(rx, store, octets[0], octets[1], &mut form).unwrap();
-    put(line, RESTORED, &form);
+    put(line, Code::Restored, &form);
     foundation::octets::put(store, 0, &octets[2..]);
     let fresh = receiver_state::idle(rx.own);
     stored::restoring::restore(fresh, &form, store).unwrap_or(fresh)
 }
 
 // The record of this kind and these octets.
-fn record_kind(rx: Receiver, store: &mut [u8], kind: u8, octets: &[u8], line: &mut [u8]) -> Receiver
+fn record_kind(
+    rx: Receiver,
+    store: &mut [u8],
+    kind: Kind,
+    octets: &[u8],
+    line: &mut [u8],
+) -> Receiver
     requires { (receiver_good rx ≡ true) × (length line.old ≡ line_size) × (length store.old ≡ store_size) }
-    ensures { (result ≡ (after_record (state_of rx store.old) (record_of kind octets.now)).receiver)
-        × (store.new ≡ (after_record (state_of rx store.old) (record_of kind octets.now)).store)
-        × (line.new ≡ line_in (line_of (state_of rx store.old) (record_of kind octets.now))) }
+    ensures { (result ≡ (after_record (state_of rx store.old) (record_by kind octets.now)).receiver)
+        × (store.new ≡ (after_record (state_of rx store.old) (record_by kind octets.now)).store)
+        × (line.new ≡ line_in (line_of (state_of rx store.old) (record_by kind octets.now))) }
 {
     let n = octets.len();
-    if kind == 0 {
-        return record_header(rx, store, octets, line);
-    }
-    if kind == 1 {
-        return record_block(rx, store, octets, line);
-    }
-    if kind == 2 {
-        if n == 0 {
+    match kind {
+        Kind::Header => record_header(rx, store, octets, line),
+        Kind::Block => record_block(rx, store, octets, line),
+        Kind::End if n == 0 => {
             put_response(line, receiver::event::on_end(rx));
-            return rx;
+            rx
+        }
+        Kind::Restart if n == 2 + STORE => record_restart(rx, store, octets, line),
+        _ => {
+            put_refusal(line, 1);
+            rx
         }
     }
-    if kind == 3 {
-        if n == 2 + STORE {
-            return record_restart(rx, store, octets, line);
-        }
-    }
-    put_refusal(line, 1);
-    rx
 }
 
 // A record of a log, of this kind and these octets: the receiver after it. The line gets what is answered.
@@ -187,5 +173,5 @@ pub fn record(
     if !receiver_state::is_good(rx) || store.len() != STORE || line.len() != LINE {
         return Err(Refusal::Size);
     }
-    Ok(record_kind(rx, store, kind, octets, line))
+    Ok(record_kind(rx, store, Kind::from(kind), octets, line))
 }

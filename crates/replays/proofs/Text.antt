@@ -2,13 +2,11 @@
 -- Assumes nothing.
 use mathlib.Core.Path.{◌≡◌, refl, sym, ap, subst, ◌∙◌}
 use mathlib.Core.List.{List, [], ◌∷◌, ◌++◌}
-use mathlib.Core.Logic.{◌≢◌}
 use Prim.Native.Nat.{ℕ, ◌+◌, ◌*◌, ◌-◌, ◌/◌, ◌%◌, ◌≤◌, ◌<◌, min}
 use native.Mathlib.Omega.{arith}
 use lib.Dec.{eqb}
 use lib.ListN.{length, get_or, take, drop, length-append, take-append-drop, length-take, length-drop}
 use lib.Seq.{take_all, take_at, drop_at}
-use borrow.Author.Tests.{ne_eqb}
 use Rattle.foundation.proofs.Tests.{either}
 use Rattle.foundation.proofs.Copying.{take_shorter}
 use Rattle.texts.specs.Texts.{decimal, octets_text, blank, line_feed, parts}
@@ -33,6 +31,8 @@ use Rattle.stored.specs.Stored.{stored_block, saved}
 use Rattle.stored.proofs.ReadingBack.{length_form}
 use Rattle.history.specs.History.{header, block, ended}
 use Rattle.history.specs.Run.{event, restart, State, answer_to, saved_form, after_event}
+use Rattle.logs.specs.Numbers.{code_number, code_at}
+use Rattle.logs.specs.declared.numbers.Code.{Code}
 use Rattle.logs.specs.Log.{Record, act, none, Line, answer, restarted, line_of, after_record, code_of, contents_of, line_octets, line_in}
 use Rattle.replays.specs.Text.{line_text, report_room}
 use Rattle.replays.specs.Parts.{contents_in, code_text, octets_line}
@@ -84,28 +84,32 @@ module _ (d : List ℕ) (at r : ℕ) (m : List ℕ) (room : at + report_room ≤
     unfolding code_text
     restored-written c = parts-written c (omega (arith, length-octets os))
 
--- what is written by code
-module _ (d : List ℕ) (at r : ℕ) (m : List ℕ) (code : ℕ) (os : List ℕ) where
-  pub by_code : (k : ℕ) → code ≡ k → AtMost report_room (code_text k os) d at r m → AtMost report_room (code_text code os) d at r m
-  by_code k e w = subst (λ (j : ℕ). AtMost report_room (code_text j os) d at r m) (sym e) w
+-- what is written for a refusal, by the contents of its line
+pub refusal_contents : (d : List ℕ) (at r : ℕ) (m os : List ℕ) (n : ℕ) → n ≡ get_or os 0 0 → AtMost report_room (code_text 0 (n ∷ [])) d at r m
+    → AtMost report_room (code_text 0 os) d at r m
+unfolding code_text
+refusal_contents d at r m os n e w = subst (λ (j : ℕ). AtMost report_room (code_text 0 (j ∷ [])) d at r m) e w
 
-  pub by_refusal : (n : ℕ) → code ≡ 0 → n ≡ get_or os 0 0 → AtMost report_room (code_text 0 (n ∷ [])) d at r m → AtMost report_room (code_text code os) d at r m
-  unfolding code_text
-  by_refusal n e f w = by_code 0 e (subst (λ (j : ℕ). AtMost report_room (code_text 0 (j ∷ [])) d at r m) f w)
-
-  pub by_rest : code ≢ 0 → code ≢ 1 → code ≢ 2 → code ≢ 3 → code ≢ 4 → code ≢ 5 → code ≢ 6 → AtMost report_room (code_text 7 os) d at r m
-      → AtMost report_room (code_text code os) d at r m
-  unfolding code_text
-  by_rest n0 n1 n2 n3 n4 n5 n6 w =
-      rw (ne_eqb code 0 n0, ne_eqb code 1 n1, ne_eqb code 2 n2, ne_eqb code 3 n3, ne_eqb code 4 n4, ne_eqb code 5 n5, ne_eqb code 6 n6) w
+-- the text is by the code of a number, whatever the number
+pub text_by_code : (n : ℕ) (os : List ℕ) → code_text (code_number (code_at n)) os ≡ code_text n os
+unfolding code_text code_number code_at
+text_by_code n os =
+    either (eqb n 0) (λ a. rw a refl)
+    (λ a. either (eqb n 1) (λ b. rw (a, b) refl)
+    (λ b. either (eqb n 2) (λ c. rw (a, b, c) refl)
+    (λ c. either (eqb n 3) (λ d. rw (a, b, c, d) refl)
+    (λ d. either (eqb n 4) (λ e. rw (a, b, c, d, e) refl)
+    (λ e. either (eqb n 5) (λ f. rw (a, b, c, d, e, f) refl)
+    (λ f. either (eqb n 6) (λ g. rw (a, b, c, d, e, f, g) refl) (λ g. rw (a, b, c, d, e, f, g) refl)))))))
 
 -- by the line in octets
-pub octets-written : (d : List ℕ) (at r : ℕ) (m line : List ℕ) (n : ℕ) → n ≡ min (256 * get_or line 1 0 + get_or line 2 0) (2 * stored_block)
-    → AtMost report_room (code_text (get_or line 0 0) (take (3 + n - 3) (drop 3 line))) d at r m → AtMost report_room (octets_line line) d at r m
+pub octets-written : (d : List ℕ) (at r : ℕ) (m line : List ℕ) (n : ℕ) (code : Code)
+    → n ≡ min (256 * get_or line 1 0 + get_or line 2 0) (2 * stored_block) → code ≡ code_at (get_or line 0 0)
+    → AtMost report_room (code_text (code_number code) (take (3 + n - 3) (drop 3 line))) d at r m → AtMost report_room (octets_line line) d at r m
 unfolding octets_line contents_in
-octets-written d at r m line n e w =
+octets-written d at r m line n code e f w =
     let k : 3 + n - 3 ≡ min (256 * get_or line 1 0 + get_or line 2 0) (2 * stored_block) = omega arith in
-    subst (λ (j : ℕ). AtMost report_room (code_text (get_or line 0 0) (take j (drop 3 line))) d at r m) k w
+    subst (λ (j : ℕ). AtMost report_room (code_text (get_or line 0 0) (take j (drop 3 line))) d at r m) k (rw (f, text_by_code (get_or line 0 0) (take (3 + n - 3) (drop 3 line))) at w)
 
 -- ---- the text of a line's octets
 

@@ -7,6 +7,7 @@ ghost use Rattle.foundation.specs.Order.{all};
 ghost use Rattle.receiver_state.specs.Receiver.{store_size, fresh_for};
 ghost use Rattle.stored.specs.Stored.{stored_block};
 ghost use Rattle.texts.specs.Parts.{Wrote, AtMost};
+ghost use Rattle.logs.specs.Numbers.{code_number};
 ghost use Rattle.logs.specs.Log.{record_of, line_size, state_of};
 ghost use Rattle.replays.specs.Log.{records, octets_taken};
 ghost use Rattle.replays.specs.Text.{line_text, report_text, report_room};
@@ -15,11 +16,12 @@ ghost use Rattle.replays.specs.Claims.{ReplayClaims};
 ghost use Rattle.replays.specs.Parts.{Cuts, code_text, octets_line};
 
 use foundation::refusal::Refusal;
+use logs::numbers::{Code, Kind};
 use logs::recording::LINE;
 use receiver_state::{Receiver, STORE};
 
 // The kind that no record has, for one that is cut short.
-const NONE: u8 = 255;
+const NONE: u8 = Kind::Other as u8;
 
 // Octets of a response's header.
 const HEADER: usize = 12;
@@ -95,19 +97,19 @@ fn put_restored(text: &mut [u8], at: usize, form: &[u8]) -> usize
 }
 
 // The text of a line by its code and contents.
-fn put_contents(text: &mut [u8], at: usize, code: u8, contents: &[u8]) -> usize
+fn put_contents(text: &mut [u8], at: usize, code: Code, contents: &[u8]) -> usize
     requires { (at + report_room ≤ length text.old) × (length contents.now ≤ 2 * stored_block) }
-    ensures { AtMost report_room (code_text code contents.now) text.old at result text.new }
+    ensures { AtMost report_room (code_text (code_number code) contents.now) text.old at result text.new }
 {
     match code {
-        0 => put_refusal(text, at, foundation::octets::at(contents, 0)),
-        1 => texts::put_word(text, at, b"opened\n"),
-        2 => texts::put_word(text, at, b"repeat\n"),
-        3 => texts::put_word(text, at, b"stored\n"),
-        4 => texts::put_word(text, at, b"bad\n"),
-        5 => put_message(text, at, contents),
-        6 => put_response(text, at, contents),
-        _ => put_restored(text, at, contents),
+        Code::Refused => put_refusal(text, at, foundation::octets::at(contents, 0)),
+        Code::Opened => texts::put_word(text, at, b"opened\n"),
+        Code::Repeat => texts::put_word(text, at, b"repeat\n"),
+        Code::Stored => texts::put_word(text, at, b"stored\n"),
+        Code::Bad => texts::put_word(text, at, b"bad\n"),
+        Code::Message => put_message(text, at, contents),
+        Code::Response => put_response(text, at, contents),
+        Code::Restored => put_restored(text, at, contents),
     }
 }
 
@@ -117,7 +119,7 @@ fn put_line(text: &mut [u8], at: usize, line: &[u8]) -> usize
     ensures { AtMost report_room (octets_line line.now) text.old at result text.new }
 {
     let size = foundation::octets::shorter(256 * (line[1] as usize) + line[2] as usize, CONTENTS);
-    put_contents(text, at, line[0], &line[FIRST..FIRST + size])
+    put_contents(text, at, Code::from(line[0]), &line[FIRST..FIRST + size])
 }
 
 // ---- records

@@ -7,6 +7,7 @@ use lib.ListN.{length, drop, length-drop}
 use lib.Seq.{take_all}
 use Rattle.foundation.proofs.Copying.{put_all}
 use Rattle.history.specs.Run.{saved_form}
+use Rattle.logs.specs.Numbers.{code_number}
 use Rattle.logs.specs.Log.{code_of, contents_of, line_octets, line_in, line_of}
 use Rattle.logs.proofs.OneRecord.{form_of, saves, restart-leaves}
 use Rattle.logs.proofs.recording.record_restart.Goals as goal
@@ -15,7 +16,7 @@ pub unwrap-requires : goal.unwrap-requires
 unwrap-requires c = saves c.args.rx c.args.store.now _ c.requires.0 c.requires.2 (omega arith) _ c.save.ensures.0
 
 pub returns : goal.returns
-unfolding saved_form line_of line_in code_of contents_of
+unfolding saved_form line_of line_in code_of contents_of code_number
 returns c =
     let a = c.args in
     let os = a.octets.now in
