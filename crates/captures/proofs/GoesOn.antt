@@ -9,7 +9,7 @@ use native.Mathlib.Decide.{dec_lt}
 use native.Mathlib.Omega.{arith}
 use lib.ListN.{length, take, drop, length-append, length-drop, drop_of_length-le}
 use lib.Seq.{take-append-le, drop-append-le, drop-drop}
-use Rattle.reception.specs.declared.Answer.{Answer}
+use Rattle.reception.specs.Reception.{Answer}
 use Rattle.counting.specs.declared.Counts.{Counts}
 use Rattle.counting.specs.Counts.{counts_of, counted_all}
 use Rattle.counting.proofs.Counting.{counts_on}

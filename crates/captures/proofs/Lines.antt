@@ -14,12 +14,9 @@ use Rattle.transactions.specs.declared.header.Transaction.{Transaction}
 use Rattle.counting.specs.declared.Counts.{Counts}
 use Rattle.transactions.specs.Answers.{number_of}
 use Rattle.receiver_state.specs.Receiver.{store_size}
-use Rattle.receiver.specs.Events as Events
-use Rattle.receiver.specs.declared.event.Answer as receiver
-use Rattle.receiver.specs.declared.event.Answer.TheVariants.{Refused, Opened, Repeat, Stored, Bad, Message}
-use Rattle.reception.specs.Reception as Reception
-use Rattle.reception.specs.declared.Answer as reception
-use Rattle.reception.specs.declared.Answer.TheVariants.{Confirmed}
+use Rattle.receiver.specs.Events.{Answer, Refused, Opened, Repeat, Stored, Bad, Message, said}
+use Rattle.reception.specs.Reception.{Confirmed}
+use Rattle.reception.specs.Reception as reception
 use Rattle.counting.specs.Counts.{answer_number}
 use Rattle.captures.specs.declared.Listing.{Listing}
 use Rattle.captures.specs.declared.Listing.TheVariants.{Numbers, Deliveries}
@@ -123,19 +120,14 @@ module _ (c : Counts) (datagrams : c.datagrams < 2 ^ 64) (messages : c.messages 
 -- ---- what is said
 
 -- the number that is said, whatever the store holds
-confirmed-number : (a : receiver.Answer) (store : List ℕ) → number_of (Events.said a store) ≡ number_of (Events.said a [])
-unfolding Events.said number_of
-confirmed-number (Refused n) store = refl
-confirmed-number Opened store = refl
-confirmed-number Repeat store = refl
-confirmed-number Stored store = refl
-confirmed-number Bad store = refl
-confirmed-number (Message n) store = refl
-
-pub number-said : (a : reception.Answer) (store : List ℕ) → answer_number a ≡ number_of (Reception.said a store)
-unfolding answer_number Reception.said
-number-said (reception.TheVariants.Refused n) store = refl
-number-said (Confirmed c) store = sym (confirmed-number c store)
+pub number-said : (a : Answer) (store : List ℕ) → answer_number (Confirmed a) ≡ number_of (said a store)
+unfolding answer_number said reception.said number_of
+number-said (Refused n) store = refl
+number-said Opened store = refl
+number-said Repeat store = refl
+number-said Stored store = refl
+number-said Bad store = refl
+number-said (Message n) store = refl
 
 -- no line
 pub no_line : (k : ℕ) (d : List ℕ) (at : ℕ) → AtMost k [] d at at d
@@ -143,26 +135,22 @@ no_line k d at = (wrote_none d at, omega arith)
 
 -- a line of an answer that is another, and of a listing that is another
 module _ (i : ℕ) (t : Transaction) (store d : List ℕ) (at r : ℕ) (m : List ℕ) where
-  pub confirmed-line : (a b : receiver.Answer) → a ≡ b → AtMost 1302 (delivery_line i t (Events.said b store)) d at r m
-      → AtMost 1302 (delivery_line i t (Events.said a store)) d at r m
-  confirmed-line a b e w = subst (λ (x : receiver.Answer). AtMost 1302 (delivery_line i t (Events.said x store)) d at r m) (sym e) w
+  pub answer-line : (a b : Answer) → a ≡ b → AtMost 1302 (delivery_line i t (said b store)) d at r m
+      → AtMost 1302 (delivery_line i t (said a store)) d at r m
+  answer-line a b e w = subst (λ (x : Answer). AtMost 1302 (delivery_line i t (said x store)) d at r m) (sym e) w
 
-  pub reception_line : (a b : reception.Answer) → a ≡ b → AtMost 1302 (delivery_line i t (Reception.said b store)) d at r m
-      → AtMost 1302 (delivery_line i t (Reception.said a store)) d at r m
-  reception_line a b e w = subst (λ (x : reception.Answer). AtMost 1302 (delivery_line i t (Reception.said x store)) d at r m) (sym e) w
-
-  pub number-listed : (l : Listing) (a : reception.Answer) (n : ℕ) → l ≡ Numbers → n ≡ answer_number a → AtMost 25 (number_line i n) d at r m
-      → AtMost (line_room l) (listed_line l i (record { said = Reception.said a store; transaction = t })) d at r m
+  pub number-listed : (l : Listing) (a : Answer) (n : ℕ) → l ≡ Numbers → n ≡ answer_number (Confirmed a) → AtMost 25 (number_line i n) d at r m
+      → AtMost (line_room l) (listed_line l i (record { said = said a store; transaction = t })) d at r m
   unfolding line_room listed_line
   number-listed l a n e f w =
-      subst (λ (x : Listing). AtMost (line_room x) (listed_line x i (record { said = Reception.said a store; transaction = t })) d at r m) (sym e)
+      subst (λ (x : Listing). AtMost (line_room x) (listed_line x i (record { said = said a store; transaction = t })) d at r m) (sym e)
       (subst (λ (k : ℕ). AtMost 25 (number_line i k) d at r m) (f ∙ number-said a store) w)
 
-  pub delivery_listed : (l : Listing) (a : reception.Answer) → l ≡ Deliveries → AtMost 1302 (delivery_line i t (Reception.said a store)) d at r m
-      → AtMost (line_room l) (listed_line l i (record { said = Reception.said a store; transaction = t })) d at r m
+  pub delivery_listed : (l : Listing) (a : Answer) → l ≡ Deliveries → AtMost 1302 (delivery_line i t (said a store)) d at r m
+      → AtMost (line_room l) (listed_line l i (record { said = said a store; transaction = t })) d at r m
   unfolding line_room listed_line
   delivery_listed l a e w =
-      subst (λ (x : Listing). AtMost (line_room x) (listed_line x i (record { said = Reception.said a store; transaction = t })) d at r m) (sym e) w
+      subst (λ (x : Listing). AtMost (line_room x) (listed_line x i (record { said = said a store; transaction = t })) d at r m) (sym e) w
 
 -- the last line, of each listing
 module _ (l : Listing) (c : Counts) (d : List ℕ) where

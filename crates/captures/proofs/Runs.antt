@@ -14,10 +14,11 @@ use Rattle.texts.proofs.Writing.{wrote_none, behind}
 use Rattle.captures.specs.declared.Gateway.{Gateway}
 use Rattle.captures.specs.declared.Listing.{Listing}
 use Rattle.captures.specs.declared.Listing.TheVariants.{Numbers, Deliveries}
-use Rattle.reception.specs.Reception.{said, on_datagram}
-use Rattle.reception.specs.declared.Received.{Received}
+use Rattle.receiver.specs.Events as event
+use Rattle.reception.specs.Reception.{Answer, Refused, Confirmed, answer_of, step_of, said, on_datagram}
 use Rattle.counting.specs.declared.Counts.{Counts}
-use Rattle.counting.specs.Counts.{counted}
+use Rattle.transactions.specs.Answers.{Said}
+use Rattle.counting.specs.Counts.{hands_on, is_message, refuses, is_refused, counted}
 use Rattle.captures.specs.Lines.{Outcome, number_lines, numbers, delivery_lines, listed, line_room}
 use Rattle.captures.specs.Captures.{datagram_size, cut, Running, running, answer_given, left_by, outcome_of, left_by_all, outcomes, lines_of}
 use Rattle.captures.specs.Parts.{listed_line}
@@ -46,17 +47,32 @@ lines_cons l s d ds =
     listed_cons l s.gateway.counts.datagrams (outcome_of s d) (outcomes (left_by s d) ds)
     ∙ ap (λ (k : ℕ). listed_line l s.gateway.counts.datagrams (outcome_of s d) ++ listed l k (outcomes (left_by s d) ds)) (sym (next_index s d))
 
+-- an answer as one of the receiver's: the same is said, and the same is counted
+same_said : (a : Answer) (store : List ℕ) → event.said (answer_of a) store ≡ said a store
+unfolding said event.said
+same_said (Refused n) store = refl
+same_said (Confirmed a) store = refl
+
+same_counted : (c : Counts) (a : Answer) → counted c (Confirmed (answer_of a)) ≡ counted c a
+unfolding counted is_message is_refused hands_on refuses said event.said
+same_counted c (Refused n) = refl
+same_counted c (Confirmed a) = refl
+
 -- the step, from what the receiver gave and what was counted and written
-pub answered-step : (l : Listing) (g : Gateway) (store d text : List ℕ) (at : ℕ) (x : Received) (store' : List ℕ) (c : Counts) (r : ℕ) (text' : List ℕ)
-    → x ≡ (on_datagram g.receiver store d).received → store' ≡ (on_datagram g.receiver store d).store → c ≡ counted g.counts x.answer
-    → AtMost (line_room l) (listed_line l g.counts.datagrams (record { said = said x.answer store'; transaction = x.receiver.transaction })) text at r text'
+pub answered-step : (l : Listing) (g : Gateway) (store d text : List ℕ) (at : ℕ) (x : event.Step) (store' : List ℕ) (c : Counts) (r : ℕ) (text' : List ℕ)
+    → x ≡ step_of (on_datagram g.receiver store d).received → store' ≡ (on_datagram g.receiver store d).store → c ≡ counted g.counts (Confirmed x.answer)
+    → AtMost (line_room l) (listed_line l g.counts.datagrams (record { said = event.said x.answer store'; transaction = x.receiver.transaction })) text at r text'
     → (running (record { receiver = x.receiver; counts = c }) store' ≡ left_by (running g store) d)
     × AtMost (line_room l) (listed_line l g.counts.datagrams (outcome_of (running g store) d)) text at r text'
 unfolding left_by outcome_of answer_given
 answered-step l g store d text at x store' c r text' ex es ec w =
-    let counts = ec ∙ ap (λ (y : Received). counted g.counts y.answer) ex in
-    let outcome : ◌≡◌ {A = Outcome} (record { said = said x.answer store'; transaction = x.receiver.transaction }) (outcome_of (running g store) d) =
-    λ i. record { said = said (ex i).answer (es i); transaction = (ex i).receiver.transaction } in (
+    let y = on_datagram g.receiver store d in
+    let counts = ec ∙ ap (λ (s : event.Step). counted g.counts (Confirmed s.answer)) ex ∙ same_counted g.counts y.received.answer in
+    let stepped : ◌≡◌ {A = Outcome} (record { said = event.said x.answer store'; transaction = x.receiver.transaction })
+    (record { said = event.said (answer_of y.received.answer) y.store; transaction = y.received.receiver.transaction }) =
+    λ i. record { said = event.said (ex i).answer (es i); transaction = (ex i).receiver.transaction } in
+    let outcome : ◌≡◌ {A = Outcome} (record { said = event.said x.answer store'; transaction = x.receiver.transaction }) (outcome_of (running g store) d) =
+    stepped ∙ ap (λ (s : Said). record { said = s; transaction = y.received.receiver.transaction }) (same_said y.received.answer y.store) in (
       λ i. running (record { receiver = (ex i).receiver; counts = counts i }) (es i),
       subst (λ (o : Outcome). AtMost (line_room l) (listed_line l g.counts.datagrams o) text at r text') outcome w,
     )

@@ -7,8 +7,7 @@ use Rattle.foundation.specs.Refusals.{outcome}
 use Rattle.foundation.specs.declared.refusal.Refusal.{Refusal}
 use Rattle.foundation.specs.Octets.{put}
 use Rattle.receiver_state.specs.Receiver.{store_size, fresh_for}
-use Rattle.reception.specs.Reception.{said, on_datagram}
-use Rattle.reception.specs.declared.Answer.{Answer}
+use Rattle.reception.specs.Reception.{Answer, said, on_datagram}
 use Rattle.counting.specs.Counts.{counts_of, counted}
 use Rattle.captures.specs.declared.Gateway.{Gateway}
 use Rattle.captures.specs.declared.Listing.{Listing}

@@ -4,7 +4,7 @@ use Rattle.std.specs.Prelude.{◌≡◌, Bool, true, List, [], ◌++◌, ℕ, �
 use Rattle.addresses.specs.Octets.{address_at}
 use Rattle.receiver_state.specs.Receiver.{store_size}
 use Rattle.history.specs.History.{nothing}
-use Rattle.reception.specs.declared.Answer.{Answer}
+use Rattle.reception.specs.Reception.{Answer}
 use Rattle.counting.specs.Counts.{counts_of}
 use Rattle.captures.specs.declared.Listing.{Listing}
 use Rattle.captures.specs.Captures.{ListAnswer, cut, started, Running, running, answers_given, left_by_all, outcomes, printed, datagrams_answered}

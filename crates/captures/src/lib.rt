@@ -4,8 +4,7 @@
 ghost use Rattle.std.specs.Prelude.{◌≡◌, cond, ◌+◌, ◌*◌, ◌-◌, ◌/◌, ◌≤◌, ◌<◌, min, length};
 ghost use Rattle.foundation.specs.Octets.{put};
 ghost use Rattle.receiver_state.specs.Receiver.{store_size};
-ghost use Rattle.receiver.specs.Events.{said as receiver·said};
-ghost use Rattle.reception.specs.Reception.{said};
+ghost use Rattle.receiver.specs.Events.{said, told};
 ghost use Rattle.texts.specs.Texts.{end_at};
 ghost use Rattle.texts.specs.Parts.{Wrote, AtMost};
 ghost use Rattle.captures.specs.Lines.{number_line, end_line, source_part, size_part, message_line, bad_line, delivery_line, closing, line_room};
@@ -16,9 +15,8 @@ ghost use Rattle.captures.specs.Claims.{ListClaims};
 
 use counting::Counts;
 use foundation::refusal::Refusal;
-use receiver::event;
+use receiver::event::Answer;
 use receiver_state::{Receiver, STORE};
-use reception::Answer;
 use transactions::header::Transaction;
 
 const DATAGRAM: usize = 53;
@@ -114,31 +112,6 @@ fn put_bad(text: &mut [u8], at: usize, index: u64, t: Transaction) -> usize
     texts::put_word(text, first, b" bad\n")
 }
 
-// The line of a message that the confirmed receiver hands on or finds bad; a message stands in the store.
-fn put_confirmed(
-    text: &mut [u8],
-    at: usize,
-    index: u64,
-    t: Transaction,
-    a: event::Answer,
-    store: &[u8],
-) -> usize
-    requires { (at + 1302 ≤ length text.old) × (length store.now ≡ store_size) }
-    ensures { AtMost 1302 (delivery_line index t (receiver·said a store.now)) text.old at result text.new }
-{
-    match a {
-        event::Answer::Refused(_) => at,
-        event::Answer::Opened => at,
-        event::Answer::Repeat => at,
-        event::Answer::Stored => at,
-        event::Answer::Bad => put_bad(text, at, index, t),
-        event::Answer::Message(n) => {
-            let end = foundation::octets::shorter(n, store.len());
-            put_message(text, at, index, t, &store[..end])
-        }
-    }
-}
-
 // The line of an answer: number or delivery.
 fn put_line(
     listing: Listing,
@@ -146,11 +119,11 @@ fn put_line(
     at: usize,
     index: u64,
     t: Transaction,
-    a: Answer,
+    a: Result<Answer, Refusal>,
     store: &[u8],
 ) -> usize
     requires { (at + line_room listing ≤ length text.old) × (length store.now ≡ store_size) }
-    ensures { AtMost (line_room listing) (listed_line listing index (record { said = said a store.now; transaction = t })) text.old at result text.new }
+    ensures { AtMost (line_room listing) (listed_line listing index (record { said = said (told a) store.now; transaction = t })) text.old at result text.new }
 {
     match listing {
         Listing::Numbers => put_number(text, at, index, counting::number_of(a)),
@@ -158,21 +131,28 @@ fn put_line(
     }
 }
 
-// The line of an answer that hands a message on, or finds it bad.
+// The line of an answer that hands a message on, or finds it bad; a message stands in the store.
 fn put_delivery(
     text: &mut [u8],
     at: usize,
     index: u64,
     t: Transaction,
-    a: Answer,
+    a: Result<Answer, Refusal>,
     store: &[u8],
 ) -> usize
     requires { (at + 1302 ≤ length text.old) × (length store.now ≡ store_size) }
-    ensures { AtMost 1302 (delivery_line index t (said a store.now)) text.old at result text.new }
+    ensures { AtMost 1302 (delivery_line index t (said (told a) store.now)) text.old at result text.new }
 {
     match a {
-        Answer::Refused(_) => at,
-        Answer::Confirmed(c) => put_confirmed(text, at, index, t, c, store),
+        Err(_) => at,
+        Ok(Answer::Opened) => at,
+        Ok(Answer::Repeat) => at,
+        Ok(Answer::Stored) => at,
+        Ok(Answer::Bad) => put_bad(text, at, index, t),
+        Ok(Answer::Message(n)) => {
+            let end = foundation::octets::shorter(n, store.len());
+            put_message(text, at, index, t, &store[..end])
+        }
     }
 }
 

@@ -1,8 +1,12 @@
 -- The counts of a list with more answers behind it.
 -- Assumes nothing.
 use Rattle.std.proofs.Common.{◌≡◌, ℕ, ◌+◌, ◌%◌, ◌^◌, Bool, cond, List, [], ◌∷◌, ◌++◌, sym, refl, ap, ◌∙◌, append_assoc, append-nil, arith, length-append}
-use Rattle.reception.specs.declared.Answer.{Answer}
-use Rattle.counting.specs.Counts.{how_many, is_message, is_refused, counts_of, counted, counted_all, CountsOn}
+use Rattle.std.specs.Prelude.{Ok}
+use Rattle.transactions.specs.Answers.{number_of}
+use Rattle.receiver.specs.Events as event
+use Rattle.receiver.specs.declared.event.Answer as answers
+use Rattle.reception.specs.Reception.{Answer, Confirmed, said}
+use Rattle.counting.specs.Counts.{answer_number, how_many, is_message, is_refused, counts_of, counted, counted_all, CountsOn}
 use Rattle.counting.specs.declared.Counts.{Counts}
 
 how_many_more : (test : Answer → Bool) (given : List Answer) (a : Answer)
@@ -29,3 +33,12 @@ unfolding counted_all
 counts_on [] given = ap counts_of (sym (append-nil given))
 counts_on (a ∷ more) given =
     ap (λ (c : Counts). counted_all c more) (one_more given a) ∙ counts_on more (given ++ (a ∷ [])) ∙ ap counts_of (append_assoc given (a ∷ []) more)
+
+-- what is no refusal has no number
+pub no_number : (x : answers.Answer) → 0 ≡ answer_number (Confirmed (event.told (Ok x)))
+unfolding answer_number said event.said number_of
+no_number answers.TheVariants.Opened = refl
+no_number answers.TheVariants.Repeat = refl
+no_number answers.TheVariants.Stored = refl
+no_number answers.TheVariants.Bad = refl
+no_number (answers.TheVariants.Message n) = refl

@@ -2,8 +2,7 @@
 -- Assumes nothing.
 use Rattle.std.specs.Prelude.{◌≡◌, ℕ, ◌+◌, ◌%◌, ◌^◌, Bool, true, false, cond, List, [], ◌∷◌, ◌++◌, length}
 use Rattle.transactions.specs.Answers.{Said, refused, opened, repeat, stored, bad, message, response, number_of}
-use Rattle.reception.specs.Reception.{said}
-use Rattle.reception.specs.declared.Answer.{Answer}
+use Rattle.reception.specs.Reception.{Answer, said}
 use Rattle.counting.specs.declared.Counts.{Counts}
 
 -- document 01's number for an answer: 0 for none. Which octets a message has is no matter here, so none stand for the store

@@ -4,10 +4,11 @@
 ghost use Rattle.std.specs.Prelude.{◌≡◌, [], ◌∷◌, if◌then◌else◌};
 ghost use Rattle.counting.specs.Counts.{answer_number, is_message, is_refused, counts_of, CountsOn};
 ghost use Rattle.counting.specs.Counts.{counted as Counts·counted};
-ghost use Rattle.reception.specs.declared.Answer.TheVariants.{Confirmed};
+ghost use Rattle.receiver.specs.Events.{told};
+ghost use Rattle.reception.specs.Reception.{Confirmed};
 
-use receiver::event;
-use reception::Answer;
+use foundation::refusal::Refusal;
+use receiver::event::Answer;
 
 #[derive(Clone, Copy)]
 pub struct Counts {
@@ -16,27 +17,13 @@ pub struct Counts {
     pub refused: u64,
 }
 
-// The number of an answer of the confirmed receiver, 0 for none.
-fn confirmed_number(a: event::Answer) -> u8
-    ensures { result ≡ answer_number (Confirmed a) }
-{
-    match a {
-        event::Answer::Refused(number) => number,
-        event::Answer::Opened => 0,
-        event::Answer::Repeat => 0,
-        event::Answer::Stored => 0,
-        event::Answer::Bad => 0,
-        event::Answer::Message(_) => 0,
-    }
-}
-
 // The number of an answer, 0 for none: a listing prints that 0, so an Option would be undone where it is taken.
-pub fn number_of(a: Answer) -> u8
-    ensures { result ≡ answer_number a }
+pub fn number_of(a: Result<Answer, Refusal>) -> u8
+    ensures { result ≡ answer_number (Confirmed (told a)) }
 {
     match a {
-        Answer::Refused(number) => number,
-        Answer::Confirmed(c) => confirmed_number(c),
+        Ok(_) => 0,
+        Err(refusal) => refusal.number(),
     }
 }
 
@@ -64,31 +51,22 @@ fn marked(message: u64, refusal: u64) -> Marks
     Marks { message, refusal }
 }
 
-fn confirmed_marks(a: event::Answer) -> Marks
-    ensures { (result.message ≡ (if is_message (Confirmed a) then 1 else 0)) × (result.refusal ≡ (if is_refused (Confirmed a) then 1 else 0)) }
+fn marks_of(a: Result<Answer, Refusal>) -> Marks
+    ensures { (result.message ≡ (if is_message (Confirmed (told a)) then 1 else 0)) × (result.refusal ≡ (if is_refused (Confirmed (told a)) then 1 else 0)) }
 {
     match a {
-        event::Answer::Refused(_) => marked(0, 1),
-        event::Answer::Opened => marked(0, 0),
-        event::Answer::Repeat => marked(0, 0),
-        event::Answer::Stored => marked(0, 0),
-        event::Answer::Bad => marked(0, 0),
-        event::Answer::Message(_) => marked(1, 0),
-    }
-}
-
-fn marks_of(a: Answer) -> Marks
-    ensures { (result.message ≡ (if is_message a then 1 else 0)) × (result.refusal ≡ (if is_refused a then 1 else 0)) }
-{
-    match a {
-        Answer::Refused(_) => marked(0, 1),
-        Answer::Confirmed(c) => confirmed_marks(c),
+        Ok(Answer::Opened) => marked(0, 0),
+        Ok(Answer::Repeat) => marked(0, 0),
+        Ok(Answer::Stored) => marked(0, 0),
+        Ok(Answer::Bad) => marked(0, 0),
+        Ok(Answer::Message(_)) => marked(1, 0),
+        Err(_) => marked(0, 1),
     }
 }
 
 // The counts with one answer more.
-pub fn counted(c: Counts, a: Answer) -> Counts
-    ensures { (result ≡ Counts·counted c a) × CountsOn (a ∷ []) }
+pub fn counted(c: Counts, a: Result<Answer, Refusal>) -> Counts
+    ensures { (result ≡ Counts·counted c (Confirmed (told a))) × CountsOn (Confirmed (told a) ∷ []) }
 {
     let m = marks_of(a);
     Counts {

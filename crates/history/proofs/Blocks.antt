@@ -22,8 +22,7 @@ use Rattle.foundation.proofs.Tests.{either, never}
 use Rattle.foundation.proofs.Order.{all_nil, all_cons, all-at, passed}
 use Rattle.transactions.proofs.FlagOctets.{flagged_with, octets_with, length_with}
 use Rattle.receiver_state.specs.Receiver.{block_at, store_size, no_flags, held, all_held, transaction_good}
-use Rattle.receiver.specs.Events.{said, answered, changed, put_block, block_refusal, completed, taken, on_block}
-use Rattle.receiver.specs.declared.event.Answer.TheVariants.{Bad, Message}
+use Rattle.receiver.specs.Events.{Bad, Message, said, answered, changed, put_block, block_refusal, completed, taken, on_block}
 use Rattle.receiver.proofs.StoreBlocks.{length-put, at-put-same, at-put_other}
 use Rattle.history.specs.History.{History, block, holds, held_data, valid, keeping, whole, message_of, after_block, after, kept_number, handed_on, block_said, said_to}
 use Rattle.history.specs.Run.{State, after_event, answer_to}

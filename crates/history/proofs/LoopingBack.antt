@@ -32,11 +32,8 @@ use Rattle.transactions.specs.Answers.{message}
 use Rattle.transactions.specs.declared.header.Transaction.{Transaction}
 use Rattle.foundation.proofs.Tests.{either}
 use Rattle.receiver_state.specs.Receiver.{store_size, held, all_held, fresh_receiver}
-use Rattle.receiver.specs.Events.{BlockLeft, said, put_block, block_refusal, completed, taken, on_header, on_block}
+use Rattle.receiver.specs.Events.{Answer, Refused, Opened, Repeat, Stored, Bad, Message, Step, BlockLeft, said, put_block, block_refusal, completed, taken, on_header, on_block}
 use Rattle.receiver_state.specs.declared.Receiver.{Receiver}
-use Rattle.receiver.specs.declared.event.Answer.{Answer}
-use Rattle.receiver.specs.declared.event.Answer.TheVariants.{Refused, Opened, Repeat, Stored, Bad, Message}
-use Rattle.receiver.specs.declared.event.Step.{Step}
 use Rattle.history.specs.History.{Kept, header, nothing, after_block, after, block_said, said_to}
 use Rattle.history.specs.Run.{State, after_event, answer_to}
 use Rattle.history.specs.Claims.{fresh_state}

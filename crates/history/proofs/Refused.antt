@@ -4,9 +4,7 @@ use mathlib.Core.Path.{◌≡◌, refl}
 use mathlib.Core.List.{List}
 use Prim.Native.Nat.{ℕ}
 use Rattle.transactions.specs.Answers.{refused}
-use Rattle.receiver.specs.Events.{BlockLeft, said, on_header, on_block}
-use Rattle.receiver.specs.declared.event.Answer.{Answer}
-use Rattle.receiver.specs.declared.event.Answer.TheVariants.{Refused, Opened, Repeat, Stored, Bad, Message}
+use Rattle.receiver.specs.Events.{Answer, Refused, Opened, Repeat, Stored, Bad, Message, BlockLeft, said, on_header, on_block}
 use Rattle.receiver.proofs.Claims.{claims}
 use Rattle.history.specs.History.{Event, header, block, ended}
 use Rattle.history.specs.Run.{State, after_event, answer_to}

@@ -1,15 +1,12 @@
 -- A message looped back: written, and given whole and in order to a fresh receiver of its destination.
 -- Assumes nothing.
-use Rattle.std.specs.Prelude.{◌≡◌, Result, Ok, Err, List, [], ◌∷◌, ◌≢◌, ℕ, eqb, length}
+use Rattle.std.specs.Prelude.{◌≡◌, List, [], ◌∷◌, ◌≢◌, ℕ, eqb, length}
 use Rattle.foundation.specs.Octets.{over}
 use Rattle.foundation.specs.Order.{first_failed}
-use Rattle.foundation.specs.Refusals.{refusal_number}
-use Rattle.foundation.specs.declared.refusal.Refusal.{Refusal}
 use Rattle.messages.specs.Messages.{laid_out, full_header}
 use Rattle.messages.specs.declared.message.Delivery.{Delivery}
 use Rattle.receiver_state.specs.Receiver.{store_size}
-use Rattle.receiver.specs.declared.event.Answer.{Answer}
-use Rattle.receiver.specs.declared.event.Answer.TheVariants.{Refused, Message}
+use Rattle.receiver.specs.Events.{Answer, Refused, Message}
 
 -- 1 for a store of another size, 16 for a message that is too long or a field outside its width
 unfoldable pub loop_number : List ℕ → Delivery → List ℕ → ℕ
@@ -19,8 +16,3 @@ loop_number m d store = first_failed ((eqb (length store) store_size, 1) ∷ (eq
 pub record LoopsBack (m : List ℕ) (d : Delivery) (store : List ℕ) (a : Answer) (store' : List ℕ) : Type 0 where
   pub handed_on_lem : loop_number m d store ≡ 0 → (a ≡ Message (length m)) × (store' ≡ over store 0 (laid_out m))
   pub refused : loop_number m d store ≢ 0 → (a ≡ Refused (loop_number m d store)) × (store' ≡ store)
-
--- what is answered, or a refusal by its number
-abbrev pub told : Result Answer Refusal → Answer
-told (Ok a) = a
-told (Err r) = Refused (refusal_number r)

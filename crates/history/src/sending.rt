@@ -1,15 +1,18 @@
 // A message written and received.
 ghost use Rattle.history.specs.Claims.{Delivered};
-ghost use Rattle.history.specs.Sending.{LoopsBack, told};
+ghost use Rattle.receiver.specs.Events.{told};
+ghost use Rattle.history.specs.Sending.{LoopsBack};
 
 use foundation::refusal::Refusal;
 use messages::message::Delivery;
 use receiver::event::Answer;
 use receiver_state::STORE;
 
-// Writes a message and gives it to a fresh receiver of its destination: the answer to the last block.
-fn given(message: &[u8], d: Delivery, store: &mut [u8]) -> Result<Answer, Refusal>
-    ensures { LoopsBack message.now d store.old (told result) store.new }
+// Writes a message, gives it whole and in order to a fresh receiver of its destination, and tells the answer to the last block. The message
+// then stands in front in the store, its pad and its check behind it, and the rest of the store is as it was. As the self-test of writer and
+// receiver it also promises that restarts between the events change nothing.
+pub fn loop_back(message: &[u8], d: Delivery, store: &mut [u8]) -> Result<Answer, Refusal>
+    ensures { LoopsBack message.now d store.old (told result) store.new × Delivered message.now d }
 {
     if store.len() != STORE {
         return Err(Refusal::Size);
@@ -26,17 +29,5 @@ fn given(message: &[u8], d: Delivery, store: &mut [u8]) -> Result<Answer, Refusa
         rx = step.receiver;
         last = step.answer;
     }
-    Ok(last)
-}
-
-// Writes a message, gives it whole and in order to a fresh receiver of its destination, and tells the answer to the last block. The message
-// then stands in front in the store, its pad and its check behind it, and the rest of the store is as it was. As the self-test of writer and
-// receiver it also promises that restarts between the events change nothing.
-pub fn loop_back(message: &[u8], d: Delivery, store: &mut [u8]) -> Answer
-    ensures { LoopsBack message.now d store.old result store.new × Delivered message.now d }
-{
-    match given(message, d, store) {
-        Ok(answer) => answer,
-        Err(refusal) => Answer::Refused(refusal.number()),
-    }
+    last
 }

@@ -9,8 +9,7 @@ use lib.Seq.{take_all}
 use Rattle.foundation.specs.Octets.{put}
 use Rattle.foundation.proofs.Copying.{Grown, grown_none, grown_put, grown_all}
 use Rattle.foundation.proofs.Filling.{drop-zeros}
-use Rattle.receiver.specs.Events.{said}
-use Rattle.receiver.specs.declared.event.Answer.{Answer}
+use Rattle.receiver.specs.Events.{Answer, said}
 use Rattle.stored.specs.Stored.{stored_block}
 use Rattle.logs.specs.Log.{answer, line_size, line_octets, line_in}
 

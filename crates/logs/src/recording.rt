@@ -3,7 +3,7 @@
 ghost use Rattle.std.specs.Prelude.{◌≡◌, true, ◌++◌, ◌+◌, ◌*◌, ◌≤◌, length};
 ghost use Rattle.transactions.specs.Answers.{refused, given_said};
 ghost use Rattle.receiver_state.specs.Receiver.{store_size, receiver_good};
-ghost use Rattle.receiver.specs.Events.{said};
+ghost use Rattle.receiver.specs.Events.{said, told};
 ghost use Rattle.stored.specs.Stored.{stored_block};
 ghost use Rattle.history.specs.History.{header, block};
 ghost use Rattle.history.specs.Run.{event};
@@ -45,18 +45,18 @@ fn put_refusal(line: &mut [u8], number: u8)
     put(line, Code::Refused, &[number]);
 }
 
-// The line of an answer to a header or a block; a message stands in the store.
-fn put_answer(line: &mut [u8], a: Answer, store: &[u8])
+// The line of what is given for a header or a block; a message stands in the store.
+fn put_answer(line: &mut [u8], given: Result<Answer, Refusal>, store: &[u8])
     requires { (length line.old ≡ line_size) × (length store.now ≡ store_size) }
-    ensures { line.new ≡ line_in (answer (said a store.now)) }
+    ensures { line.new ≡ line_in (answer (said (told given) store.now)) }
 {
-    match a {
-        Answer::Refused(number) => put_refusal(line, number),
-        Answer::Opened => put(line, Code::Opened, b""),
-        Answer::Repeat => put(line, Code::Repeat, b""),
-        Answer::Stored => put(line, Code::Stored, b""),
-        Answer::Bad => put(line, Code::Bad, b""),
-        Answer::Message(n) => {
+    match given {
+        Err(refusal) => put_refusal(line, refusal.number()),
+        Ok(Answer::Opened) => put(line, Code::Opened, b""),
+        Ok(Answer::Repeat) => put(line, Code::Repeat, b""),
+        Ok(Answer::Stored) => put(line, Code::Stored, b""),
+        Ok(Answer::Bad) => put(line, Code::Bad, b""),
+        Ok(Answer::Message(n)) => {
             let end = foundation::octets::shorter(n, store.len());
             put(line, Code::Message, &store[..end]);
         }

@@ -2,6 +2,7 @@
 ghost use Rattle.report.specs.Counted.{MoreCases};
 
 use addresses::RadioAddress;
+use foundation::refusal::Refusal;
 use messages::response::ResponseOctets;
 use receiver::event::Answer;
 use receiver_state::{Receiver, STORE};
@@ -31,14 +32,10 @@ fn response() -> ResponseOctets {
 }
 
 // The length of a message that is handed on, 1000 for any other answer.
-fn handed_on(a: Answer) -> u32 {
+fn handed_on(a: Result<Answer, Refusal>) -> u32 {
     match a {
-        Answer::Message(n) => (n % 1000) as u32,
-        Answer::Refused(_) => 1000,
-        Answer::Opened => 1000,
-        Answer::Repeat => 1000,
-        Answer::Stored => 1000,
-        Answer::Bad => 1000,
+        Ok(Answer::Message(n)) => (n % 1000) as u32,
+        _ => 1000,
     }
 }
 

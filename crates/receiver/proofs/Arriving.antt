@@ -17,10 +17,9 @@ use Rattle.transactions.specs.declared.header.Heard.{Heard}
 use Rattle.transactions.specs.declared.header.Transaction.{Transaction}
 use Rattle.transactions.proofs.Hearing.{heard_is, heard_small}
 use Rattle.receiver_state.specs.Receiver.{no_flags, receiver_good}
-use Rattle.receiver.specs.Events.{answered, header_refusal, opened_by, on_header, on_end}
+use Rattle.receiver.specs.Events.{Refused, Opened, Repeat, answered, header_refusal, opened_by, on_header, on_end}
 use Rattle.receiver.specs.Parts.{on_heard}
 use Rattle.receiver_state.specs.declared.Receiver.{Receiver}
-use Rattle.receiver.specs.declared.event.Answer.TheVariants.{Refused, Opened, Repeat}
 
 -- ---- headers
 
@@ -54,12 +53,12 @@ module _ (rx : Receiver) (h : List ℕ) where
         let f = sym (heard_is rx.own h) ∙ e in
         ap (λ (y : Heard). on_heard rx y.transaction y.full) (sym (ok_same _ _ x f)) ∙ rw (number, ok_zero _ _ x f)
 
-    pub header_unheard : (r : Refusal) (n : ℕ) → heard_given (heard_of rx.own h) ≡ Err r → n ≡ refusal_number r → answered rx (Refused n) ≡ on_header rx h
+    pub header_unheard : (r : Refusal) → heard_given (heard_of rx.own h) ≡ Err r → answered rx (Refused (refusal_number r)) ≡ on_header rx h
     unfolding on_header
-    header_unheard r n e is =
+    header_unheard r e =
         let f = sym (heard_is rx.own h) ∙ e in
         rw (number, ne_eqb (heard_number rx.own h) 0 (err_number _ _ r f))
-        (ap (λ (k : ℕ). answered rx (Refused k)) (is ∙ number_err _ _ r (heard_small rx.own h) f))
+        (ap (λ (k : ℕ). answered rx (Refused k)) (number_err _ _ r (heard_small rx.own h) f))
 
 -- ---- ends of attempt
 

@@ -12,11 +12,8 @@ use Rattle.messages.specs.Messages.{block_size, check_size}
 use Rattle.transactions.specs.Transactions.{is_full, repeats, serial_of, data_of}
 use Rattle.transactions.specs.Flags.{with_flag}
 use Rattle.receiver_state.specs.declared.Receiver.{Receiver}
-use Rattle.receiver.specs.declared.event.Answer.{Answer}
-use Rattle.receiver.specs.declared.event.Answer.TheVariants.{Refused, Opened, Repeat, Stored, Bad, Message}
-use Rattle.receiver.specs.declared.event.Step.{Step}
 use Rattle.receiver_state.specs.Receiver.{no_flags, held, all_held}
-use Rattle.receiver.specs.Events.{answered, changed, header_refusal, opened_by, on_header, put_block, BlockLeft, block_refusal, completed, taken, on_block}
+use Rattle.receiver.specs.Events.{Answer, Refused, Opened, Repeat, Stored, Bad, Message, Step, answered, changed, header_refusal, opened_by, on_header, put_block, BlockLeft, block_refusal, completed, taken, on_block}
 use Rattle.receiver.specs.Claims.{HeaderRefused, BlockRefused, ReceiverClaims}
 
 -- two answers that differ

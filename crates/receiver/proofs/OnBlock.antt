@@ -1,6 +1,6 @@
 -- What a block leads to, by what is given for its octets and by its flag.
 -- Assumes nothing.
-use mathlib.Core.Path.{◌≡◌, ap, ◌∙◌}
+use mathlib.Core.Path.{◌≡◌, ap}
 use mathlib.Core.Bool.{true, false}
 use mathlib.Core.List.{List}
 use Prim.Native.Nat.{ℕ}
@@ -13,18 +13,17 @@ use Rattle.packets.specs.declared.block.Block.{Block}
 use Rattle.transactions.specs.Transactions.{serial_of, data_of}
 use Rattle.transactions.specs.Flags.{flagged, with_flag}
 use Rattle.receiver_state.specs.declared.Receiver.{Receiver}
-use Rattle.receiver.specs.declared.event.Answer.TheVariants.{Refused, Repeat}
-use Rattle.receiver.specs.Events.{BlockLeft, answered, changed, put_block, block_refusal, taken, on_block}
+use Rattle.receiver.specs.Events.{Refused, Repeat, BlockLeft, answered, changed, put_block, block_refusal, taken, on_block}
 use Rattle.receiver.specs.Parts.{block_taken}
 use Rattle.receiver.proofs.BlockNumbers.{refusal_small}
 
 module _ (rx : Receiver) (store b : List ℕ) where
-  pub left-refused : (r : Refusal) (n : ℕ) → block_taken rx store b ≡ Err r → n ≡ refusal_number r
-      → ◌≡◌ {A = BlockLeft} (record { step = answered rx (Refused n); store = store }) (on_block rx store b)
+  pub left-refused : (r : Refusal) → block_taken rx store b ≡ Err r
+      → ◌≡◌ {A = BlockLeft} (record { step = answered rx (Refused (refusal_number r)); store = store }) (on_block rx store b)
   unfolding block_taken on_block
-  left-refused r n e is =
+  left-refused r e =
       let number = number_err (block_refusal rx store b) _ r (refusal_small rx store b) e in
-      rw (ne_eqb (block_refusal rx store b) 0 (err_number _ _ r e)) (ap (λ (k : ℕ). record { step = answered rx (Refused k); store = store }) (is ∙ number))
+      rw (ne_eqb (block_refusal rx store b) 0 (err_number _ _ r e)) (ap (λ (k : ℕ). record { step = answered rx (Refused k); store = store }) number)
 
   module _ (x : Block) (e : block_taken rx store b ≡ Ok x) where
     pub none : block_refusal rx store b ≡ 0

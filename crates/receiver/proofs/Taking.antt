@@ -14,9 +14,8 @@ use Rattle.transactions.specs.Flags.{flagged}
 use Rattle.transactions.specs.declared.header.Transaction.{Transaction}
 use Rattle.foundation.proofs.Order.{all-at}
 use Rattle.receiver_state.specs.declared.Receiver.{Receiver}
-use Rattle.receiver.specs.declared.event.Answer.TheVariants.{Stored, Bad, Message}
 use Rattle.receiver_state.specs.Receiver.{no_flags, all_held, transaction_good}
-use Rattle.receiver.specs.Events.{answered, changed, completed, taken}
+use Rattle.receiver.specs.Events.{Stored, Bad, Message, answered, changed, completed, taken}
 
 pub good-blocks : (t : Transaction) → transaction_good t ≡ true → (1 ≤ t.blocks) × (t.blocks ≤ 63) × (t.pad + 4 ≤ 10 * t.blocks)
 unfolding transaction_good

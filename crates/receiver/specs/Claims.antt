@@ -2,9 +2,7 @@
 -- Assumes nothing.
 use Rattle.std.specs.Prelude.{◌≡◌, List, ℕ}
 use Rattle.receiver_state.specs.declared.Receiver.{Receiver}
-use Rattle.receiver.specs.declared.event.Answer.TheVariants.{Refused}
-use Rattle.receiver.specs.declared.event.Step.{Step}
-use Rattle.receiver.specs.Events.{on_header, on_block}
+use Rattle.receiver.specs.Events.{Refused, Step, on_header, on_block}
 
 -- a refused header changes nothing: rx before, r the step that it gives
 abbrev pub HeaderRefused : Receiver → Step → Type 0

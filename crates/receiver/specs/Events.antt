@@ -1,17 +1,44 @@
 -- What the receiver answers to an event and leaves.
 -- Assumes nothing.
-use Rattle.std.specs.Prelude.{cond, List, ◌++◌, ℕ, ◌+◌, ◌*◌, ◌-◌, eqb, length, take, drop}
+use Rattle.std.specs.Prelude.{Result, Ok, Err, cond, List, ◌++◌, ℕ, ◌+◌, ◌*◌, ◌-◌, eqb, length, take, drop}
 use Rattle.checks.specs.Checks.{message_good}
+use Rattle.foundation.specs.Refusals.{refusal_number}
+use Rattle.foundation.specs.declared.refusal.Refusal.{Refusal}
 use Rattle.messages.specs.Messages.{block_size, check_size}
 use Rattle.messages.specs.Responses.{ResponseWritten}
 use Rattle.transactions.specs.Transactions.{transaction_of, is_full, heard_number, repeats, serial_of, data_of, taken_number}
 use Rattle.transactions.specs.Flags.{with_flag}
 use Rattle.transactions.specs.Answers.{Said, refused, opened, repeat, stored, bad, message, no_response, response_to}
 use Rattle.receiver_state.specs.declared.Receiver.{Receiver}
-use Rattle.receiver.specs.declared.event.Answer.{Answer}
-use Rattle.receiver.specs.declared.event.Answer.TheVariants.{Refused, Opened, Repeat, Stored, Bad, Message}
-use Rattle.receiver.specs.declared.event.Step.{Step}
+use Rattle.receiver.specs.declared.event.Answer as answers
+use Rattle.receiver.specs.declared.event.Step as steps
 use Rattle.receiver_state.specs.Receiver.{block_at, store_size, no_flags, held, all_held, receiver_good}
+
+-- what is answered to a header or a block: the number of a refusal; or what becomes of it. A message is the store's first octets, this many
+pub data Answer : Type 0 where
+  Refused : ℕ → Answer
+  Opened : Answer
+  Repeat : Answer
+  Stored : Answer
+  Bad : Answer
+  Message : ℕ → Answer
+
+-- the receiver after an event, and the answer
+pub record Step : Type 0 where
+  pub receiver : Receiver
+  pub answer : Answer
+
+-- what is given says one of these: a refusal is told by its number
+abbrev pub told : Result answers.Answer Refusal → Answer
+told (Ok answers.TheVariants.Opened) = Opened
+told (Ok answers.TheVariants.Repeat) = Repeat
+told (Ok answers.TheVariants.Stored) = Stored
+told (Ok answers.TheVariants.Bad) = Bad
+told (Ok (answers.TheVariants.Message n)) = Message n
+told (Err r) = Refused (refusal_number r)
+
+abbrev pub step_told : steps.Step → Step
+step_told s = record { receiver = s.receiver; answer = told s.answer }
 
 -- what is answered, in document 01's numbers and values: a message is the store's first octets
 unfoldable pub said : Answer → List ℕ → Said

@@ -7,10 +7,8 @@ use Rattle.packets.specs.declared.block.Block.{Block}
 use Rattle.transactions.specs.Transactions.{belongs, serial_of, data_of}
 use Rattle.transactions.specs.declared.header.Transaction.{Transaction}
 use Rattle.receiver_state.specs.declared.Receiver.{Receiver}
-use Rattle.receiver.specs.declared.event.Answer.TheVariants.{Refused, Opened, Repeat}
-use Rattle.receiver.specs.declared.event.Step.{Step}
 use Rattle.receiver_state.specs.Receiver.{no_flags}
-use Rattle.receiver.specs.Events.{answered, block_refusal}
+use Rattle.receiver.specs.Events.{Refused, Opened, Repeat, Step, answered, block_refusal}
 
 -- a header that is for this receiver
 unfoldable pub on_heard : Receiver → Transaction → Bool → Step

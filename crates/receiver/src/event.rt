@@ -4,8 +4,8 @@ ghost use Rattle.messages.specs.Messages.{block_size};
 ghost use Rattle.messages.specs.Responses.{response_given};
 ghost use Rattle.transactions.specs.Transactions.{belongs, same_data};
 ghost use Rattle.receiver_state.specs.Receiver.{block_at, store_size, transaction_good};
-ghost use Rattle.receiver.specs.Events.{answered, on_header, put_block, taken, on_block, on_end};
-ghost use Rattle.receiver.specs.declared.event.Answer.TheVariants.{Refused};
+ghost use Rattle.foundation.specs.Refusals.{refusal_number};
+ghost use Rattle.receiver.specs.Events.{Refused, step_told, answered, on_header, put_block, taken, on_block, on_end};
 ghost use Rattle.receiver.specs.Claims.{HeaderRefused, BlockRefused};
 ghost use Rattle.receiver.specs.Parts.{on_heard, block_taken};
 
@@ -19,7 +19,6 @@ use transactions::header::Transaction;
 // What is answered to a header or a block. A message is the store's first octets, this many.
 #[derive(Clone, Copy, Debug, PartialEq, Eq)]
 pub enum Answer {
-    Refused(u8),
     Opened,
     Repeat,
     Stored,
@@ -27,19 +26,19 @@ pub enum Answer {
     Message(usize),
 }
 
-// The receiver after an event, and the answer.
+// The receiver after an event, and the answer or the refusal.
 #[derive(Clone, Copy)]
 pub struct Step {
     pub receiver: Receiver,
-    pub answer: Answer,
+    pub answer: Result<Answer, Refusal>,
 }
 
-fn refused(rx: Receiver, number: u8) -> Step
-    ensures { result ≡ answered rx (Refused number) }
+fn refused(rx: Receiver, refusal: Refusal) -> Step
+    ensures { step_told result ≡ answered rx (Refused (refusal_number refusal)) }
 {
     Step {
         receiver: rx,
-        answer: Answer::Refused(number),
+        answer: Err(refusal),
     }
 }
 
@@ -54,16 +53,16 @@ fn is_repeat(rx: Receiver, t: Transaction, full: bool) -> bool
 
 // A header that is for this receiver.
 fn heard(rx: Receiver, t: Transaction, full: bool) -> Step
-    ensures { result ≡ on_heard rx t full }
+    ensures { step_told result ≡ on_heard rx t full }
 {
     if is_repeat(rx, t, full) {
         return Step {
             receiver: rx,
-            answer: Answer::Repeat,
+            answer: Ok(Answer::Repeat),
         };
     }
     if !full {
-        return refused(rx, 12);
+        return refused(rx, Refusal::NoTransaction);
     }
     Step {
         receiver: Receiver {
@@ -72,20 +71,20 @@ fn heard(rx: Receiver, t: Transaction, full: bool) -> Step
             transaction: t,
             flags: [0u8; 8],
         },
-        answer: Answer::Opened,
+        answer: Ok(Answer::Opened),
     }
 }
 
 // The octets of a header.
 pub fn on_header(rx: Receiver, header: &[u8]) -> Step
-    ensures { (result ≡ on_header rx header.now) × HeaderRefused rx result }
+    ensures { (step_told result ≡ on_header rx header.now) × HeaderRefused rx (step_told result) }
 {
     if !receiver_state::is_good(rx) {
-        return refused(rx, 1);
+        return refused(rx, Refusal::Size);
     }
     match transactions::header::hear(rx.own, header) {
         Ok(h) => heard(rx, h.transaction, h.full),
-        Err(refusal) => refused(rx, refusal.number()),
+        Err(refusal) => refused(rx, refusal),
     }
 }
 
@@ -131,13 +130,13 @@ fn block_taken(rx: Receiver, store: &[u8], octets: &[u8]) -> Result<Block, Refus
 // What a new block leads to, which stands in the store and is flagged.
 fn taken_block(rx: Receiver, store: &[u8]) -> Step
     requires { (transaction_good rx.transaction ≡ true) × (length store.now ≡ store_size) }
-    ensures { result ≡ taken rx store.now }
+    ensures { step_told result ≡ taken rx store.now }
 {
     let blocks = rx.transaction.blocks as usize;
     if !transactions::flags::all_below(rx.flags, blocks) {
         return Step {
             receiver: rx,
-            answer: Answer::Stored,
+            answer: Ok(Answer::Stored),
         };
     }
     let size = BLOCK * blocks;
@@ -148,30 +147,30 @@ fn taken_block(rx: Receiver, store: &[u8]) -> Step
                 flags: [0u8; 8],
                 ..rx
             },
-            answer: Answer::Bad,
+            answer: Ok(Answer::Bad),
         };
     }
     Step {
         receiver: Receiver { phase: 2, ..rx },
-        answer: Answer::Message(size - CHECK - rx.transaction.pad as usize),
+        answer: Ok(Answer::Message(size - CHECK - rx.transaction.pad as usize)),
     }
 }
 
 // The octets of a block. A new block is put into the store; otherwise the store stays as it is.
 pub fn on_block(rx: Receiver, store: &mut [u8], octets: &[u8]) -> Step
-    ensures { (result ≡ (on_block rx store.old octets.now).step)
+    ensures { (step_told result ≡ (on_block rx store.old octets.now).step)
         × (store.new ≡ (on_block rx store.old octets.now).store)
-        × BlockRefused rx store.old result store.new }
+        × BlockRefused rx store.old (step_told result) store.new }
 {
     let block = match block_taken(rx, store, octets) {
         Ok(block) => block,
-        Err(refusal) => return refused(rx, refusal.number()),
+        Err(refusal) => return refused(rx, refusal),
     };
     let n = block.serial as usize;
     if transactions::flags::is_set(rx.flags, n) {
         return Step {
             receiver: rx,
-            answer: Answer::Repeat,
+            answer: Ok(Answer::Repeat),
         };
     }
     put_block(store, n, block.octets);

@@ -4,9 +4,7 @@ use Rattle.std.specs.Prelude.{◌≡◌, List, ℕ, ◌≤◌}
 use Rattle.datagrams.specs.Datagrams.{read_datagram}
 use Rattle.receiver_state.specs.declared.Receiver.{Receiver}
 use Rattle.receiver.specs.Events.{on_header, on_block}
-use Rattle.reception.specs.declared.Answer.TheVariants.{Refused}
-use Rattle.reception.specs.declared.Received.{Received}
-use Rattle.reception.specs.Reception.{with_answer, by_receiver, on_datagram}
+use Rattle.reception.specs.Reception.{Refused, Received, with_answer, by_receiver, on_datagram}
 
 -- what a datagram can be to a receiver that gives r and leaves store': refused with one of 1 to 7, and nothing changes; or exactly its
 -- header; or exactly its block

@@ -11,13 +11,9 @@ use Rattle.datagrams.specs.Datagrams.{datagram_number, read_datagram}
 use Rattle.transactions.specs.Answers.{Said, refused}
 use Rattle.receiver_state.specs.Receiver.{store_size, receiver_good}
 use Rattle.receiver_state.specs.declared.Receiver.{Receiver}
-use Rattle.receiver.specs.Events.{on_header, on_block}
+use Rattle.receiver.specs.Events.{Step, on_header, on_block}
 use Rattle.receiver.specs.Events as receiver
-use Rattle.receiver.specs.declared.event.Step.{Step}
 use Rattle.reception.specs.declared.Arrival.{Arrival}
-use Rattle.reception.specs.declared.Answer.{Answer}
-use Rattle.reception.specs.declared.Answer.TheVariants.{Refused, Confirmed}
-use Rattle.reception.specs.declared.Received.{Received}
 
 -- what a datagram brings: the number of its refusal, 0 for none; the kind by its data type; the octets that it carries
 pub record Brought : Type 0 where
@@ -31,6 +27,24 @@ arrival_of d = record { number = datagram_number d; kind = kind_of (read_datagra
 -- what is given: kind and octets where the number is 0, else the refusal
 unfoldable pub arrival_given : Brought → Result Arrival Refusal
 arrival_given b = outcome b.number (record { kind = b.kind; octets = b.octets })
+
+-- what is answered to a datagram: the number of a refusal before any receiver, or what the receiver of confirmed messages answers
+pub data Answer : Type 0 where
+  Refused : ℕ → Answer
+  Confirmed : receiver.Answer → Answer
+
+-- the receiver after a datagram, and the answer
+pub record Received : Type 0 where
+  pub receiver : Receiver
+  pub answer : Answer
+
+-- the same as a step of the receiver: a refusal is one, whoever refused
+abbrev pub answer_of : Answer → receiver.Answer
+answer_of (Refused n) = receiver.Refused n
+answer_of (Confirmed a) = a
+
+abbrev pub step_of : Received → Step
+step_of r = record { receiver = r.receiver; answer = answer_of r.answer }
 
 -- what is answered, in document 01's numbers and values
 unfoldable pub said : Answer → List ℕ → Said

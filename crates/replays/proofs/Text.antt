@@ -24,9 +24,7 @@ use Rattle.transactions.specs.Answers.{refused, opened, repeat, stored, bad, mes
 use Rattle.transactions.specs.Flags.{flag_octet_count, flag_octets}
 use Rattle.receiver_state.specs.Receiver.{receiver_good}
 use Rattle.receiver_state.specs.declared.Receiver.{Receiver}
-use Rattle.receiver.specs.Events.{said, on_end}
-use Rattle.receiver.specs.declared.event.Answer.{Answer}
-use Rattle.receiver.specs.declared.event.Answer.TheVariants.{Refused, Opened, Repeat, Stored, Bad, Message}
+use Rattle.receiver.specs.Events.{Answer, Refused, Opened, Repeat, Stored, Bad, Message, said, on_end}
 use Rattle.stored.specs.Stored.{stored_block, saved}
 use Rattle.stored.proofs.ReadingBack.{length_form}
 use Rattle.history.specs.History.{header, block, ended}

@@ -1,5 +1,6 @@
 -- `captures::answer` meets its contract.
 -- Assumes nothing.
+use Rattle.receiver.specs.Events.{step_told}
 use Rattle.captures.proofs.Runs.{answered-step}
 use Rattle.captures.proofs.answer.Goals as goal
 
@@ -7,4 +8,4 @@ pub returns : goal.returns
 returns c =
     let a = c.args in
     let o = c.on_datagram-step.ensures in
-    answered-step a.listing a.g a.store.now a.datagram.now a.text.now a.at _ _ _ _ _ o.0 o.1 c.counted.ensures.0 c.put_line-end.ensures
+    answered-step a.listing a.g a.store.now a.datagram.now a.text.now a.at (step_told c.on_datagram-step.result) _ _ _ _ o.0 o.1 c.counted.ensures.0 c.put_line-end.ensures

@@ -1,5 +1,6 @@
 -- `captures::put_line` meets its contract.
 -- Assumes nothing.
+use Rattle.receiver.specs.Events.{told}
 use Rattle.captures.proofs.Lines.{numbers-room, deliveries_room, number-listed, delivery_listed}
 use Rattle.captures.proofs.put_line.Goals as goal
 
@@ -12,9 +13,9 @@ put_delivery-requires c = (deliveries_room _ _ _ c.in-Deliveries.is c.requires.0
 pub returns-in-Numbers : goal.returns-in-Numbers
 returns-in-Numbers c =
     let a = c.args in
-    number-listed a.index a.t a.store.now _ _ _ _ a.listing a.a _ c.in-Numbers.is c.number_of.ensures c.put_number.ensures
+    number-listed a.index a.t a.store.now _ _ _ _ a.listing (told a.a) _ c.in-Numbers.is c.number_of.ensures c.put_number.ensures
 
 pub returns-in-Deliveries : goal.returns-in-Deliveries
 returns-in-Deliveries c =
     let a = c.args in
-    delivery_listed a.index a.t a.store.now _ _ _ _ a.listing a.a c.in-Deliveries.is c.put_delivery.ensures
+    delivery_listed a.index a.t a.store.now _ _ _ _ a.listing (told a.a) c.in-Deliveries.is c.put_delivery.ensures

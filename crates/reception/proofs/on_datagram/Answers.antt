@@ -2,8 +2,7 @@
 -- Assumes nothing.
 use mathlib.Core.Path.{sym, ◌∙◌}
 use Rattle.foundation.specs.Refusals.{refusal_number}
-use Rattle.reception.specs.declared.Answer.TheVariants.{Refused}
-use Rattle.reception.specs.Reception.{with_answer}
+use Rattle.receiver.specs.Events.{Refused, answered}
 use Rattle.reception.proofs.Arriving.{Led, led_as, not_good, store_not_good, not_taken, header-taken, block-taken, other_refused}
 use Rattle.reception.proofs.on_datagram.Goals.{then-not-is_good-via-then-not-is_good, then-not-is_good-via-else-not-is_good+then-store-ne-STORE}
 use Rattle.reception.proofs.on_datagram.Goals as goal
@@ -13,7 +12,7 @@ unfolding refusal_number
 returns-then-not-is_good c =
     let a = c.args in
     let l =
-    elim c.then-not-is_good.branch as (λ x. Led a.rx a.store.now a.datagram.now (with_answer a.rx (Refused 1)) a.store.now) [
+    elim c.then-not-is_good.branch as (λ x. Led a.rx a.store.now a.datagram.now (answered a.rx (Refused 1)) a.store.now) [
       | then-not-is_good-via-then-not-is_good w ↦ not_good a.rx a.store.now a.datagram.now (sym c.is_good.ensures ∙ w.if-not-is_good.true)
       | then-not-is_good-via-else-not-is_good+then-store-ne-STORE w ↦
           store_not_good a.rx a.store.now a.datagram.now (sym c.is_good.ensures ∙ w.if-not-is_good.false) w.if-store-ne-STORE.true
@@ -32,15 +31,13 @@ pub returns-in-Header : goal.returns-in-Header
 returns-in-Header c =
     let a = c.args in
     let good = sym c.is_good.ensures ∙ c.if-not-is_good.false in
-    led_as a.rx a.store.now a.datagram.now _ _ _ c.by_receiver.ensures
-    (header-taken a.rx a.store.now a.datagram.now good c.if-store-ne-STORE.false _ (sym c.arrival_of.ensures ∙ c.in-Ok.is) c.in-Header.is _ c.on_header.ensures.0)
+    header-taken a.rx a.store.now a.datagram.now good c.if-store-ne-STORE.false _ (sym c.arrival_of.ensures ∙ c.in-Ok.is) c.in-Header.is _ c.on_header.ensures.0
 
 pub returns-in-Block : goal.returns-in-Block
 returns-in-Block c =
     let a = c.args in
     let good = sym c.is_good.ensures ∙ c.if-not-is_good.false in
-    led_as a.rx a.store.now a.datagram.now _ _ _ c.by_receiver-in-Block.ensures
-    (block-taken a.rx a.store.now a.datagram.now good c.if-store-ne-STORE.false _ (sym c.arrival_of.ensures ∙ c.in-Ok.is) c.in-Block.is _ _ c.on_block.ensures.0 c.on_block.ensures.1)
+    block-taken a.rx a.store.now a.datagram.now good c.if-store-ne-STORE.false _ (sym c.arrival_of.ensures ∙ c.in-Ok.is) c.in-Block.is _ _ c.on_block.ensures.0 c.on_block.ensures.1
 
 pub returns-in-Other : goal.returns-in-Other
 unfolding refusal_number

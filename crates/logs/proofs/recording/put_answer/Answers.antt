@@ -3,35 +3,47 @@
 use mathlib.Core.Path.{ap, ◌∙◌}
 use Prim.Native.Nat.{ℕ}
 use lib.ListN.{take}
-use Rattle.receiver.specs.Events.{said}
+use Rattle.std.specs.Prelude.{Ok}
+use Rattle.receiver.specs.Events.{said, told}
 use Rattle.logs.specs.Numbers.{code_number}
 use Rattle.logs.specs.Log.{code_of, contents_of, line_octets, line_in}
 use Rattle.logs.proofs.Lines.{said-line}
 use Rattle.foundation.proofs.Copying.{take_shorter}
 use Rattle.logs.proofs.recording.put_answer.Goals as goal
 
-pub returns-in-Refused : goal.returns-in-Refused
+pub returns-in-Err : goal.returns-in-Err
 unfolding said
-returns-in-Refused c = said-line c.args.store.now _ _ _ c.in-Refused.is c.put_refusal.ensures
+returns-in-Err c = said-line c.args.store.now _ _ _ (ap told c.in-Err.is) (rw c.number.ensures at c.put_refusal.ensures)
 
-pub returns-in-Opened : goal.returns-in-Opened
+pub returns-in-Ok-Opened : goal.returns-in-Ok-Opened
 unfolding line_in code_of contents_of code_number said
-returns-in-Opened c = said-line c.args.store.now _ _ _ c.in-Opened.is c.put.ensures
+returns-in-Ok-Opened c =
+    let w = c.in-Ok-Opened in
+    said-line c.args.store.now _ _ _ (ap told (w.is ∙ ap Ok (rw w.is at w.field-0-is))) c.put.ensures
 
-pub returns-in-Repeat : goal.returns-in-Repeat
+pub returns-in-Ok-Repeat : goal.returns-in-Ok-Repeat
 unfolding line_in code_of contents_of code_number said
-returns-in-Repeat c = said-line c.args.store.now _ _ _ c.in-Repeat.is c.put-in-Repeat.ensures
+returns-in-Ok-Repeat c =
+    let w = c.in-Ok-Repeat in
+    said-line c.args.store.now _ _ _ (ap told (w.is ∙ ap Ok (rw w.is at w.field-0-is))) c.put-in-Ok-Repeat.ensures
 
-pub returns-in-Stored : goal.returns-in-Stored
+pub returns-in-Ok-Stored : goal.returns-in-Ok-Stored
 unfolding line_in code_of contents_of code_number said
-returns-in-Stored c = said-line c.args.store.now _ _ _ c.in-Stored.is c.put-in-Stored.ensures
+returns-in-Ok-Stored c =
+    let w = c.in-Ok-Stored in
+    said-line c.args.store.now _ _ _ (ap told (w.is ∙ ap Ok (rw w.is at w.field-0-is))) c.put-in-Ok-Stored.ensures
 
-pub returns-in-Bad : goal.returns-in-Bad
+pub returns-in-Ok-Bad : goal.returns-in-Ok-Bad
 unfolding line_in code_of contents_of code_number said
-returns-in-Bad c = said-line c.args.store.now _ _ _ c.in-Bad.is c.put-in-Bad.ensures
+returns-in-Ok-Bad c =
+    let w = c.in-Ok-Bad in
+    said-line c.args.store.now _ _ _ (ap told (w.is ∙ ap Ok (rw w.is at w.field-0-is))) c.put-in-Ok-Bad.ensures
 
-pub returns-in-Message : goal.returns-in-Message
+pub returns-in-Ok-Message : goal.returns-in-Ok-Message
 unfolding line_in code_of contents_of code_number said
-returns-in-Message c = let store = c.args.store.now in
+returns-in-Ok-Message c =
+    let store = c.args.store.now in
     let s = c.shorter-end in
-    said-line store _ _ _ c.in-Message.is (c.put-in-Message.ensures ∙ ap (line_octets 5) (ap (λ (k : ℕ). take k store) s.ensures ∙ take_shorter _ store))
+    let w = c.in-Ok-Message in
+    said-line store _ _ _ (ap told (w.is ∙ ap Ok (rw w.is at w.field-0-is)))
+    (c.put-in-Ok-Message.ensures ∙ ap (line_octets 5) (ap (λ (k : ℕ). take k store) s.ensures ∙ take_shorter _ store))

@@ -3,8 +3,7 @@
 use mathlib.Core.Path.{ap, ap₂, ◌∙◌}
 use mathlib.Core.List.{List}
 use Prim.Native.Nat.{ℕ}
-use Rattle.receiver.specs.Events.{said}
-use Rattle.receiver.specs.declared.event.Step.{Step}
+use Rattle.receiver.specs.Events.{Step, said}
 use Rattle.history.specs.Run.{after_event, answer_to}
 use Rattle.logs.specs.Log.{answer, line_in, line_of, after_record}
 use Rattle.logs.proofs.recording.record_block.Goals as goal

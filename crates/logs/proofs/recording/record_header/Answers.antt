@@ -1,8 +1,7 @@
 -- `logs::recording::record_header` meets its contract.
 -- Assumes nothing.
 use mathlib.Core.Path.{ap, ◌∙◌}
-use Rattle.receiver.specs.Events.{said}
-use Rattle.receiver.specs.declared.event.Step.{Step}
+use Rattle.receiver.specs.Events.{Step, said}
 use Rattle.history.specs.Run.{after_event, answer_to}
 use Rattle.logs.specs.Log.{answer, line_in, line_of, after_record}
 use Rattle.logs.proofs.recording.record_header.Goals as goal

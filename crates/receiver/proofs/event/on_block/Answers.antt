@@ -11,7 +11,7 @@ use Rattle.receiver.proofs.event.on_block.Goals as goal
 pub returns-in-Err : goal.returns-in-Err
 returns-in-Err c =
     let a = c.args in
-    let e = left-refused a.rx a.store.now a.octets.now _ _ (sym c.block_taken.ensures ∙ c.in-Err.is) c.number.ensures in
+    let e = left-refused a.rx a.store.now a.octets.now _ (sym c.block_taken.ensures ∙ c.in-Err.is) in
     block_promise a.rx a.store.now a.octets.now _ _ (c.refused.ensures ∙ ap (λ (l : BlockLeft). l.step) e) (ap (λ (l : BlockLeft). l.store) e)
 
 pub returns-then-is_set : goal.returns-then-is_set
