@@ -1,15 +1,15 @@
 // Events on the stored form, for gateways that keep nothing else: restore, act, save. A refusal changes nothing.
 #![tactic(auto)]
 
-ghost use Rattle.std.specs.Prelude.{◌≡◌, ◌≢◌, true, false, Ok, Err, ◌*◌, ◌^◌, ◌<◌, length, replicate};
+ghost use Rattle.std.specs.Prelude.{◌≡◌, ◌≢◌, true, false, Ok, Err, ◌^◌, ◌<◌, replicate};
 ghost use Rattle.addresses.specs.Octets.{address_at};
 ghost use Rattle.foundation.specs.Refusals.{outcome};
 ghost use Rattle.foundation.specs.declared.refusal.Refusal.TheVariants.{Size};
 ghost use Rattle.history.specs.History.{header, block, ended};
 ghost use Rattle.history.specs.Claims.{Octets};
-ghost use Rattle.logs.specs.Log.{record_of, line_size, state_of};
+ghost use Rattle.logs.specs.Log.{record_of, state_of};
 ghost use Rattle.receiver_state.specs.Receiver.{store_size, fresh_receiver};
-ghost use Rattle.stored.specs.Stored.{stored_block, restored, restored_given, after_restore};
+ghost use Rattle.stored.specs.Stored.{restored, restored_given, after_restore};
 ghost use Rattle.stored.specs.Claims.{Savable};
 ghost use Rattle.forms.specs.Forms.{fresh_number, after_fresh, an_event, a_datagram, event_number, form_after, line_after};
 ghost use Rattle.forms.specs.Claims.{FormClaim};

@@ -10,7 +10,7 @@ ghost use Rattle.history.specs.Run.{event};
 ghost use Rattle.logs.specs.Claims.{RecordRefused};
 ghost use Rattle.logs.specs.Numbers.{code_number};
 ghost use Rattle.logs.specs.Parts.{record_by};
-ghost use Rattle.logs.specs.Log.{line_size, answer, act, record_of, line_octets, line_in, line_of, restart_of, after_record, state_of, recorded, recorded_given, record_store, record_line};
+ghost use Rattle.logs.specs.Log.{answer, act, record_of, line_octets, line_in, line_of, restart_of, after_record, state_of, recorded, recorded_given, record_store, record_line};
 
 use super::numbers::{Code, Kind};
 use foundation::refusal::Refusal;
