@@ -7,18 +7,7 @@ ghost use Rattle.capi.specs.Events.{address_of, Acts};
 
 use addresses::RadioAddress;
 use foundation::refusal::Refusal;
-
-fn high(stamp: u16) -> u8
-    ensures { result ≡ stamp / 256 }
-{
-    (stamp / 256) as u8
-}
-
-fn low(stamp: u16) -> u8
-    ensures { result ≡ stamp % 256 }
-{
-    (stamp % 256) as u8
-}
+use stored::stamp::Stamp;
 
 // The number that C gets: 0, or that of the refusal.
 #[tactic(auto, unfolding(foundation::specs::Refusals::number_given))]
@@ -37,7 +26,7 @@ pub extern "C" fn kirruskabe_fresh(own: u32, stamp: u16, form: &mut [u8]) -> u8
     ensures { (result ≡ fresh_number (address_of own) form.old)
         × (form.new ≡ after_fresh (address_of own) (stamp / 256) (stamp % 256) form.old) }
 {
-    number(forms::fresh_form(RadioAddress(own), high(stamp), low(stamp), form))
+    number(forms::fresh_form(RadioAddress(own), Stamp::from(stamp), form))
 }
 
 // The octets of a datagram.
@@ -50,7 +39,7 @@ pub extern "C" fn kirruskabe_on_datagram(
 ) -> u8
     ensures { Acts (a_datagram datagram.now) stamp form.old line.old result form.new line.new }
 {
-    number(forms::on_datagram(form, high(stamp), low(stamp), datagram, line))
+    number(forms::on_datagram(form, Stamp::from(stamp), datagram, line))
 }
 
 // The octets of a header.
@@ -63,7 +52,7 @@ pub extern "C" fn kirruskabe_on_header(
 ) -> u8
     ensures { Acts (an_event (header octets.now)) stamp form.old line.old result form.new line.new }
 {
-    number(forms::on_header(form, high(stamp), low(stamp), octets, line))
+    number(forms::on_header(form, Stamp::from(stamp), octets, line))
 }
 
 // The octets of a block.
@@ -76,7 +65,7 @@ pub extern "C" fn kirruskabe_on_block(
 ) -> u8
     ensures { Acts (an_event (block octets.now)) stamp form.old line.old result form.new line.new }
 {
-    number(forms::on_block(form, high(stamp), low(stamp), octets, line))
+    number(forms::on_block(form, Stamp::from(stamp), octets, line))
 }
 
 // An end of attempt.
@@ -84,5 +73,5 @@ pub extern "C" fn kirruskabe_on_block(
 pub extern "C" fn kirruskabe_on_end(form: &mut [u8], stamp: u16, line: &mut [u8]) -> u8
     ensures { Acts (an_event ended) stamp form.old line.old result form.new line.new }
 {
-    number(forms::on_end(form, high(stamp), low(stamp), line))
+    number(forms::on_end(form, Stamp::from(stamp), line))
 }

@@ -10,7 +10,7 @@ ghost use Rattle.history.specs.Run.{event};
 ghost use Rattle.logs.specs.Claims.{RecordRefused};
 ghost use Rattle.logs.specs.Numbers.{code_number};
 ghost use Rattle.logs.specs.Parts.{record_by};
-ghost use Rattle.logs.specs.Log.{line_size, answer, act, record_of, line_octets, line_in, line_of, restart_of, after_record, state_of, recorded, recorded_given, record_store, record_line};
+ghost use Rattle.logs.specs.Log.{answer, act, record_of, line_octets, line_in, line_of, restart_of, after_record, state_of, recorded, recorded_given, record_store, record_line};
 
 use super::numbers::{Code, Kind};
 use foundation::refusal::Refusal;
@@ -18,6 +18,7 @@ use messages::response::ResponseOctets;
 use receiver::event::Answer;
 use receiver_state::{Receiver, STORE};
 use stored::saving::FORM;
+use stored::stamp::Stamp;
 
 // Octets of a line, and of its contents.
 pub const LINE: usize = 3 + CONTENTS;
@@ -25,8 +26,8 @@ pub const LINE: usize = 3 + CONTENTS;
 const CONTENTS: usize = FORM;
 
 // Writes a line of this code and these contents.
-fn put(line: &mut [u8], code: Code, contents: &[u8])
-    requires { (length line.old ≡ line_size) × (length contents.now ≤ 2 * stored_block) }
+fn put(line: &mut [u8; LINE], code: Code, contents: &[u8])
+    requires { length contents.now ≤ 2 * stored_block }
     ensures { line.new ≡ line_octets (code_number code) contents.now }
 {
     let n = contents.len();
@@ -38,16 +39,14 @@ fn put(line: &mut [u8], code: Code, contents: &[u8])
 }
 
 // The line of a refusal.
-fn put_refusal(line: &mut [u8], number: u8)
-    requires { length line.old ≡ line_size }
+fn put_refusal(line: &mut [u8; LINE], number: u8)
     ensures { line.new ≡ line_in (answer (refused number)) }
 {
     put(line, Code::Refused, &[number]);
 }
 
 // The line of what is given for a header or a block; a message stands in the store.
-fn put_answer(line: &mut [u8], given: Result<Answer, Refusal>, store: &[u8])
-    requires { (length line.old ≡ line_size) × (length store.now ≡ store_size) }
+fn put_answer(line: &mut [u8; LINE], given: Result<Answer, Refusal>, store: &[u8; STORE])
     ensures { line.new ≡ line_in (answer (said (told given) store.now)) }
 {
     match given {
@@ -74,8 +73,7 @@ fn both(header: [u8; 12], block: [u8; 12]) -> [u8; 24]
 }
 
 // The line of a response to an end of attempt.
-fn put_response(line: &mut [u8], given: Result<ResponseOctets, Refusal>)
-    requires { length line.old ≡ line_size }
+fn put_response(line: &mut [u8; LINE], given: Result<ResponseOctets, Refusal>)
     ensures { line.new ≡ line_in (answer (given_said given)) }
 {
     match given {
@@ -87,11 +85,15 @@ fn put_response(line: &mut [u8], given: Result<ResponseOctets, Refusal>)
     }
 }
 
-// ---- records, for a receiver that there can be and a line and a store of their sizes: the receiver after each
+// ---- records, for a receiver that there can be: the receiver after each
 
 // A header.
-fn record_header(rx: Receiver, store: &[u8], octets: &[u8], line: &mut [u8]) -> Receiver
-    requires { (length line.old ≡ line_size) × (length store.now ≡ store_size) }
+fn record_header(
+    rx: Receiver,
+    store: &[u8; STORE],
+    octets: &[u8],
+    line: &mut [u8; LINE],
+) -> Receiver
     ensures { (result ≡ (after_record (state_of rx store.now) (act (event (header octets.now)))).receiver)
         × (line.new ≡ line_in (line_of (state_of rx store.now) (act (event (header octets.now))))) }
 {
@@ -101,8 +103,12 @@ fn record_header(rx: Receiver, store: &[u8], octets: &[u8], line: &mut [u8]) -> 
 }
 
 // A block.
-fn record_block(rx: Receiver, store: &mut [u8], octets: &[u8], line: &mut [u8]) -> Receiver
-    requires { (length line.old ≡ line_size) × (length store.old ≡ store_size) }
+fn record_block(
+    rx: Receiver,
+    store: &mut [u8; STORE],
+    octets: &[u8],
+    line: &mut [u8; LINE],
+) -> Receiver
     ensures { (result ≡ (after_record (state_of rx store.old) (act (event (block octets.now)))).receiver)
         × (store.new ≡ (after_record (state_of rx store.old) (act (event (block octets.now)))).store)
         × (line.new ≡ line_in (line_of (state_of rx store.old) (act (event (block octets.now))))) }
@@ -112,16 +118,24 @@ fn record_block(rx: Receiver, store: &mut [u8], octets: &[u8], line: &mut [u8]) 
     step.receiver
 }
 
-// A restart: the stamp of two octets, and what the store holds before the restore.
-fn record_restart(rx: Receiver, store: &mut [u8], octets: &[u8], line: &mut [u8]) -> Receiver
-    requires { (receiver_good rx ≡ true) × (length line.old ≡ line_size) × (length store.old ≡ store_size)
-        × (length octets.now ≡ 2 + store_size) }
+// A restart: the stamp, and what the store holds before the restore.
+fn record_restart(
+    rx: Receiver,
+    store: &mut [u8; STORE],
+    octets: &[u8],
+    line: &mut [u8; LINE],
+) -> Receiver
+    requires { (receiver_good rx ≡ true) × (length octets.now ≡ 2 + store_size) }
     ensures { (result ≡ (after_record (state_of rx store.old) (restart_of octets.now)).receiver)
         × (store.new ≡ (after_record (state_of rx store.old) (restart_of octets.now)).store)
         × (line.new ≡ line_in (line_of (state_of rx store.old) (restart_of octets.now))) }
 {
     let mut form = [0u8; FORM];
-    stored::saving::save(rx, store, octets[0], octets[1], &mut form).unwrap();
+    let stamp = Stamp {
+        high: octets[0],
+        low: octets[1],
+    };
+    stored::saving::save(rx, store, stamp, &mut form).unwrap();
     put(line, Code::Restored, &form);
     foundation::octets::put(store, 0, &octets[2..]);
     let fresh = receiver_state::idle(rx.own);
@@ -131,12 +145,12 @@ fn record_restart(rx: Receiver, store: &mut [u8], octets: &[u8], line: &mut [u8]
 // The record of this kind and these octets.
 fn record_kind(
     rx: Receiver,
-    store: &mut [u8],
+    store: &mut [u8; STORE],
     kind: Kind,
     octets: &[u8],
-    line: &mut [u8],
+    line: &mut [u8; LINE],
 ) -> Receiver
-    requires { (receiver_good rx ≡ true) × (length line.old ≡ line_size) × (length store.old ≡ store_size) }
+    requires { receiver_good rx ≡ true }
     ensures { (result ≡ (after_record (state_of rx store.old) (record_by kind octets.now)).receiver)
         × (store.new ≡ (after_record (state_of rx store.old) (record_by kind octets.now)).store)
         × (line.new ≡ line_in (line_of (state_of rx store.old) (record_by kind octets.now))) }
@@ -170,8 +184,14 @@ pub fn record(
         × (line.new ≡ record_line rx store.old (record_of kind octets.now) line.old)
         × RecordRefused (state_of rx store.old) (record_of kind octets.now) }
 {
-    if !receiver_state::is_good(rx) || store.len() != STORE || line.len() != LINE {
+    if !receiver_state::is_good(rx) {
         return Err(Refusal::Size);
     }
+    let Some(store) = store.as_mut_array::<STORE>() else {
+        return Err(Refusal::Size);
+    };
+    let Some(line) = line.as_mut_array::<LINE>() else {
+        return Err(Refusal::Size);
+    };
     Ok(record_kind(rx, store, Kind::from(kind), octets, line))
 }

@@ -14,6 +14,7 @@ use transactions::flags::FLAG_OCTETS;
 
 pub mod restoring;
 pub mod saving;
+pub mod stamp;
 
 // Whether there can be such a receiver, and store and stored form have their sizes.
 #[tactic(auto, unfolding(crate::specs::Parts::usable, foundation::specs::Order::all))]

@@ -6,6 +6,7 @@ ghost use Rattle.stored.specs.Claims.{Savable, Restores};
 ghost use Rattle.foundation.specs.Octets.{put};
 ghost use Rattle.foundation.specs.Refusals.{outcome};
 
+use crate::stamp::Stamp;
 use foundation::refusal::Refusal;
 use receiver_state::{Receiver, STORE};
 
@@ -43,34 +44,34 @@ fn check_at(to: &mut [u8], at: usize)
 }
 
 // The first 23 octets of block 0.
-fn head(rx: Receiver, s0: u8, s1: u8) -> [u8; 23]
-    ensures { result ≡ head0 rx.own rx.phase rx.transaction rx.flags s0 s1 }
+fn head(rx: Receiver, stamp: Stamp) -> [u8; 23]
+    ensures { result ≡ head0 rx.own rx.phase rx.transaction rx.flags stamp.high stamp.low }
 {
     let t = rx.transaction;
     let own = rx.own.octets();
     let source = t.source.octets();
     let f = rx.flags;
     [
-        1, 0, s0, s1, rx.phase, own[0], own[1], own[2], source[0], source[1], source[2], t.sap,
-        t.ns, t.pad, t.blocks, f[0], f[1], f[2], f[3], f[4], f[5], f[6], f[7],
+        1, 0, stamp.high, stamp.low, rx.phase, own[0], own[1], own[2], source[0], source[1],
+        source[2], t.sap, t.ns, t.pad, t.blocks, f[0], f[1], f[2], f[3], f[4], f[5], f[6], f[7],
     ]
 }
 
-// The stored form of a receiver and its store, with a stamp of two octets; refused for a receiver that there can't be or another size.
-pub fn save(rx: Receiver, store: &[u8], s0: u8, s1: u8, form: &mut [u8]) -> Result<(), Refusal>
+// The stored form of a receiver and its store, with a stamp; refused for a receiver that there can't be or another size.
+pub fn save(rx: Receiver, store: &[u8], stamp: Stamp, form: &mut [u8]) -> Result<(), Refusal>
     ensures { (result ≡ outcome (save_number rx store.now form.old) tt)
-        × (form.new ≡ after_save rx store.now s0 s1 form.old)
-        × (Savable rx store.now → Restores rx store.now s0 s1) }
+        × (form.new ≡ after_save rx store.now stamp.high stamp.low form.old)
+        × (Savable rx store.now → Restores rx store.now stamp.high stamp.low) }
 {
     if !crate::usable(rx, store.len(), form.len()) {
         return Err(Refusal::Size);
     }
     let held = crate::held_store(rx.flags, store);
-    let first = head(rx, s0, s1);
+    let first = head(rx, stamp);
     foundation::octets::put(form, 0, &first);
     foundation::octets::put(form, STORE_AT_0, &held[..FIRST_PART]);
     check_at(form, 0);
-    let second = [1, 1, s0, s1];
+    let second = [1, 1, stamp.high, stamp.low];
     foundation::octets::put(form, STORED_BLOCK, &second);
     foundation::octets::put(form, STORED_BLOCK + STORE_AT_1, &held[FIRST_PART..]);
     let zeros = [0u8; ZEROS];

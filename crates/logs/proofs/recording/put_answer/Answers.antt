@@ -1,8 +1,10 @@
 -- `logs::recording::put_answer` meets its contract.
 -- Assumes nothing.
-use mathlib.Core.Path.{ap, ◌∙◌}
-use Prim.Native.Nat.{ℕ}
-use lib.ListN.{take}
+use mathlib.Core.Path.{◌≡◌, sym, ap, ◌∙◌}
+use Prim.Native.Nat.{ℕ, min}
+use borrow.Author.Rules.{rules}
+use lib.ListN.{length, take}
+use Rattle.receiver_state.specs.Receiver.{store_size}
 use Rattle.std.specs.Prelude.{Ok}
 use Rattle.receiver.specs.Events.{said, told}
 use Rattle.logs.specs.Numbers.{code_number}
@@ -45,5 +47,6 @@ returns-in-Ok-Message c =
     let store = c.args.store.now in
     let s = c.shorter-end in
     let w = c.in-Ok-Message in
+    let l : length store ≡ store_size = search (rules, c.well_formed) in
     said-line store _ _ _ (ap told (w.is ∙ ap Ok (rw w.is at w.field-0-is)))
-    (c.put-in-Ok-Message.ensures ∙ ap (line_octets 5) (ap (λ (k : ℕ). take k store) s.ensures ∙ take_shorter _ store))
+    (c.put-in-Ok-Message.ensures ∙ ap (line_octets 5) (ap (λ (k : ℕ). take k store) (s.ensures ∙ ap (min c.in-Ok-Message.n) (sym l)) ∙ take_shorter _ store))

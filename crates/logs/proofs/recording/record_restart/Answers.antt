@@ -1,8 +1,10 @@
 -- `logs::recording::record_restart` meets its contract.
 -- Assumes nothing.
-use mathlib.Core.Path.{ap, ◌∙◌}
+use mathlib.Core.Path.{◌≡◌, ap, ◌∙◌}
 use Prim.Native.Nat.{◌-◌}
 use native.Mathlib.Omega.{arith}
+use borrow.Author.Rules.{rules}
+use Rattle.receiver_state.specs.Receiver.{store_size}
 use lib.ListN.{length, drop, length-drop}
 use lib.Seq.{take_all}
 use Rattle.foundation.proofs.Copying.{put_all}
@@ -13,16 +15,19 @@ use Rattle.logs.proofs.OneRecord.{form_of, saves, restart-leaves}
 use Rattle.logs.proofs.recording.record_restart.Goals as goal
 
 pub unwrap-requires : goal.unwrap-requires
-unwrap-requires c = saves c.args.rx c.args.store.now _ c.requires.0 c.requires.2 (omega arith) _ c.save.ensures.0
+unwrap-requires c =
+    let room : length c.args.store.now ≡ store_size = search (rules, c.well_formed) in
+    saves c.args.rx c.args.store.now _ c.requires.0 room (omega arith) _ c.save.ensures.0
 
 pub returns : goal.returns
 unfolding saved_form line_of line_in code_of contents_of code_number
 returns c =
     let a = c.args in
     let os = a.octets.now in
-    let form = c.save.ensures.1 ∙ form_of a.rx c.requires.0 a.store.now _ _ _ c.requires.2 (omega arith) in
+    let room : length a.store.now ≡ store_size = search (rules, c.well_formed) in
+    let form = c.save.ensures.1 ∙ form_of a.rx c.requires.0 a.store.now _ _ _ room (omega arith) in
     let rest = take_all (length os - 2) (drop 2 os) (omega (arith, length-drop 2 os)) in
-    let other = c.put-2.ensures ∙ put_all a.store.now _ (ap length rest ∙ length-drop 2 os ∙ omega (arith, c.requires.2, c.requires.3)) ∙ rest in
+    let other = c.put-2.ensures ∙ put_all a.store.now _ (ap length rest ∙ length-drop 2 os ∙ omega (arith, room, c.requires.1)) ∙ rest in
     let r = c.restore.ensures in
     let left = restart-leaves a.rx a.store.now os _ _ _ c.idle-fresh.ensures form other _ r.0 in
     (c.unwrap_or.ensures ∙ left.0, r.1 ∙ left.1, c.put.ensures ∙ ap (line_octets 7) form)

@@ -20,8 +20,8 @@ pub returns-then-not-usable : goal.returns-then-not-usable
 unfolding outcome refusal
 returns-then-not-usable c =
     let x = c.args in
-    let p = save_refused x.rx x.store.now x.form.now x.s0 x.s1 (sym c.usable.ensures ∙ c.if-not-usable.true) in
-    (ap (λ (n : ℕ). outcome n tt) p.0, p.1, claims.restores x.rx x.store.now x.s0 x.s1)
+    let p = save_refused x.rx x.store.now x.form.now x.stamp.high x.stamp.low (sym c.usable.ensures ∙ c.if-not-usable.true) in
+    (ap (λ (n : ℕ). outcome n tt) p.0, p.1, claims.restores x.rx x.store.now x.stamp.high x.stamp.low)
 
 pub held_store-held-requires : goal.held_store-held-requires
 held_store-held-requires c =
@@ -46,7 +46,7 @@ returns c =
     let x = c.args in
     let eight : length x.rx.flags ≡ flag_octet_count = search (rules, c.well_formed) in
     let u = sym c.usable.ensures ∙ c.if-not-usable.false in
-    let p = save_taken x.rx x.store.now x.form.now x.s0 x.s1 u in
-    let w = written x.rx x.store.now x.s0 x.s1 eight _ _ c.head-first.ensures c.held_store-held.ensures x.form.now c.put.new.to c.put-2.new.to c.check_at.new.to c.put-3.new.to c.put-4.new.to c.put-5.new.to c.check_at-2.new.to
+    let p = save_taken x.rx x.store.now x.form.now x.stamp.high x.stamp.low u in
+    let w = written x.rx x.store.now x.stamp.high x.stamp.low eight _ _ c.head-first.ensures c.held_store-held.ensures x.form.now c.put.new.to c.put-2.new.to c.check_at.new.to c.put-3.new.to c.put-4.new.to c.put-5.new.to c.check_at-2.new.to
     (usable_sizes _ _ _ u).1 c.put.ensures c.put-2.ensures c.check_at.ensures c.put-3.ensures c.put-4.ensures c.put-5.ensures c.check_at-2.ensures in
-    (ap (λ (n : ℕ). outcome n tt) p.0, w ∙ p.1, claims.restores x.rx x.store.now x.s0 x.s1)
+    (ap (λ (n : ℕ). outcome n tt) p.0, w ∙ p.1, claims.restores x.rx x.store.now x.stamp.high x.stamp.low)
