@@ -32,6 +32,7 @@ pub struct Datagram {
 }
 
 // The sequence counter of the next datagram of a run.
+#[tactic(auto, unfolding(crate::specs::Datagrams::next_sequence))]
 pub fn next_sequence(sequence: u8) -> u8
     ensures { result ≡ next_sequence sequence }
 {

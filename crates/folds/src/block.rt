@@ -6,6 +6,7 @@ ghost use Rattle.polynomials.specs.Remainder.{remainder, check};
 ghost use Rattle.folds.specs.Folds.{block_generator, block_entered, block_halved};
 
 // 96 bits to 64: the 32 highest come back at x^52, x^44, x^40 and x^28.
+#[tactic(auto, unfolding(crate::specs::Folds::block_entered))]
 fn entered(a: u64, b: u64) -> u64
     ensures { result ≡ block_entered a b }
 {

@@ -16,6 +16,7 @@ struct Words {
 }
 
 // The 13 runs of a field of 64, 64, 64 and 8 bits, the last first.
+#[tactic(auto, unfolding(crate::specs::Reading::runs_of))]
 fn runs(w: Words) -> Square
     ensures { result ≡ runs_of w.a w.b w.c w.d }
 {
@@ -38,6 +39,7 @@ fn runs(w: Words) -> Square
 }
 
 // The thirteen high bits of each lane, one behind the other.
+#[tactic(auto, unfolding(crate::specs::Reading::grouped))]
 fn group(y: u64) -> u64
     ensures { result ≡ grouped y }
 {
@@ -48,6 +50,7 @@ fn group(y: u64) -> u64
 }
 
 // The plain order, in 39, 52, 52 and 52 bits, cut into rows.
+#[tactic(auto, unfolding(crate::specs::Reading::cut_words))]
 fn cut(w: u64, x: u64, y: u64, z: u64) -> [u16; 13]
     ensures { result ≡ cut_words w x y z }
 {

@@ -14,6 +14,7 @@ fn words(m: [u16; 13]) -> [u64; 13]
 }
 
 // 52 bits to the thirteen high bits of each lane.
+#[tactic(auto, unfolding(crate::specs::Writing::spread_word))]
 fn spread(w: u64) -> u64
     ensures { result ≡ spread_word w }
 {
@@ -36,6 +37,7 @@ fn groups(m: [u64; 13]) -> Square
 }
 
 // 64 bits of the field: the rest of the first run of h, the last three of x, and the start of its first. The runs of h are those behind x.
+#[tactic(auto, unfolding(crate::specs::Writing::five_runs))]
 fn five_runs(h: u64, x: u64, s: u64) -> u64
     requires { (45 ≤ s) × (s < 64) }
     ensures { result ≡ five_runs s h x }

@@ -107,6 +107,7 @@ pub fn write(reply: Reply, d: Delivery, flags: [u8; 8]) -> Result<ResponseOctets
 // ---- reading
 
 // The fields as they were sent: numbers.
+#[tactic(auto, unfolding(crate::specs::Parts::fields_with))]
 fn fields_with(c: Common, class: u8, kind: u8, status: u8, flags: [u8; 8]) -> ResponseFields
     ensures { result ≡ fields_with c class kind status flags }
 {

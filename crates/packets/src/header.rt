@@ -67,6 +67,7 @@ fn read_fields(h: &[u8]) -> Header
 }
 
 // Whether a format is 1, 2 or 3. It stays a number here: four bits of an octet, any of them.
+#[tactic(auto, unfolding(crate::specs::Headers::known_format))]
 fn known(format: u8) -> bool
     ensures { result ≡ known_format format }
 {
@@ -126,6 +127,7 @@ fn last_of(h: Header) -> u8
 }
 
 // Whether each field that all formats have is within its width.
+#[tactic(auto, unfolding(foundation::specs::Order::first_failed, crate::specs::Headers::common_widths))]
 fn common_fits(c: Common) -> bool
     ensures { result ≡ eqb (first_failed (widths (common_widths c))) 0 }
 {
@@ -140,6 +142,7 @@ fn common_fits(c: Common) -> bool
 }
 
 // Whether each field of octet 9 is within its width.
+#[tactic(auto, unfolding(foundation::specs::Order::first_failed, crate::specs::Parts::last_widths))]
 fn last_fits(h: Header) -> bool
     ensures { result ≡ eqb (first_failed (widths (last_widths h))) 0 }
 {
@@ -187,6 +190,7 @@ pub fn write(h: Header) -> Result<[u8; 12], Refusal>
 
 // The header of a format given as a number, with up to three fields for octet 9. It stays a number: C gives any, and one not 1 to 3 is
 // refused with 16.
+#[tactic(auto, unfolding(foundation::specs::Refusals::refusal, crate::specs::Headers::header_for, crate::specs::Headers::header_given))]
 pub fn for_format(format: u8, c: Common, x: u8, y: u8, z: u8) -> Result<Header, Refusal>
     ensures { result ≡ header_given (header_for format c x y z) }
 {
