@@ -70,7 +70,8 @@ fn take_form(form: &[u8; FORM], store: &mut [u8; STORE]) -> Result<Receiver, Ref
     stored::restoring::restore(fresh, form, store)
 }
 
-// An event of this kind and these octets, at a receiver that can be saved. A refusal changes neither the form nor the line.
+// An event of this kind and these octets, at a receiver that can be saved. A refusal changes neither the form nor the line. The kind stays a
+// number, as a record of a log has it.
 fn act_on(
     form: &mut [u8; FORM],
     stamp: Stamp,
@@ -101,7 +102,8 @@ fn is_size(found: Result<(), Refusal>) -> bool
     matches!(found, Err(Refusal::Size))
 }
 
-// What is asked of a form: refused for every size, for a form that is none, for what was found before, and by the answer, in this order.
+// What is asked of a form: refused for every size, for a form that is none, for what was found before, and by the answer, in this order. The
+// kind stays a number, as above.
 fn on_record(
     form: &mut [u8],
     stamp: Stamp,

@@ -1,6 +1,7 @@
 // One record of a log: what the receiver answers, in a line of a report. A line has 1,027 octets: a code, the length of the contents
 // (2 octets, most significant first), the contents, and zeros.
 ghost use Rattle.std.specs.Prelude.{◌≡◌, true, ◌++◌, ◌+◌, ◌*◌, ◌≤◌, length};
+ghost use Rattle.foundation.specs.Refusals.{refusal_number};
 ghost use Rattle.transactions.specs.Answers.{refused, given_said};
 ghost use Rattle.receiver_state.specs.Receiver.{store_size, receiver_good};
 ghost use Rattle.receiver.specs.Events.{said, told};
@@ -39,10 +40,10 @@ fn put(line: &mut [u8; LINE], code: Code, contents: &[u8])
 }
 
 // The line of a refusal.
-fn put_refusal(line: &mut [u8; LINE], number: u8)
-    ensures { line.new ≡ line_in (answer (refused number)) }
+fn put_refusal(line: &mut [u8; LINE], refusal: Refusal)
+    ensures { line.new ≡ line_in (answer (refused (refusal_number refusal))) }
 {
-    put(line, Code::Refused, &[number]);
+    put(line, Code::Refused, &[refusal.number()]);
 }
 
 // The line of what is given for a header or a block; a message stands in the store.
@@ -50,7 +51,7 @@ fn put_answer(line: &mut [u8; LINE], given: Result<Answer, Refusal>, store: &[u8
     ensures { line.new ≡ line_in (answer (said (told given) store.now)) }
 {
     match given {
-        Err(refusal) => put_refusal(line, refusal.number()),
+        Err(refusal) => put_refusal(line, refusal),
         Ok(Answer::Opened) => put(line, Code::Opened, b""),
         Ok(Answer::Repeat) => put(line, Code::Repeat, b""),
         Ok(Answer::Stored) => put(line, Code::Stored, b""),
@@ -81,7 +82,7 @@ fn put_response(line: &mut [u8; LINE], given: Result<ResponseOctets, Refusal>)
             None => put(line, Code::Response, &r.header),
             Some(block) => put(line, Code::Response, &both(r.header, block)),
         },
-        Err(refusal) => put_refusal(line, refusal.number()),
+        Err(refusal) => put_refusal(line, refusal),
     }
 }
 
@@ -165,13 +166,14 @@ fn record_kind(
         }
         Kind::Restart if n == 2 + STORE => record_restart(rx, store, octets, line),
         _ => {
-            put_refusal(line, 1);
+            put_refusal(line, Refusal::Size);
             rx
         }
     }
 }
 
-// A record of a log, of this kind and these octets: the receiver after it. The line gets what is answered.
+// A record of a log, of this kind and these octets: the receiver after it. The line gets what is answered. The kind stays a number: an octet
+// of a log, any of them, of which the definitions speak.
 pub fn record(
     rx: Receiver,
     store: &mut [u8],

@@ -15,7 +15,7 @@ use Rattle.logs.proofs.recording.put_answer.Goals as goal
 
 pub returns-in-Err : goal.returns-in-Err
 unfolding said
-returns-in-Err c = said-line c.args.store.now _ _ _ (ap told c.in-Err.is) (rw c.number.ensures at c.put_refusal.ensures)
+returns-in-Err c = said-line c.args.store.now _ _ _ (ap told c.in-Err.is) c.put_refusal.ensures
 
 pub returns-in-Ok-Opened : goal.returns-in-Ok-Opened
 unfolding line_in code_of contents_of code_number said

@@ -4,7 +4,7 @@ use mathlib.Core.Path.{◌≡◌, sym, ap, ◌∙◌}
 use mathlib.Core.List.{List, [], append-nil}
 use Prim.Native.Nat.{ℕ}
 use Rattle.std.specs.Prelude.{Option}
-use Rattle.transactions.specs.Answers.{Said, refused, response, block_said, given_said}
+use Rattle.transactions.specs.Answers.{Said, response, block_said, given_said}
 use Rattle.logs.specs.Numbers.{code_number}
 use Rattle.logs.specs.Log.{answer, code_of, contents_of, line_octets, line_in}
 use Rattle.logs.proofs.recording.put_response.Goals as goal
@@ -27,4 +27,4 @@ returns-in-Some c =
 pub returns-in-Err : goal.returns-in-Err
 unfolding given_said
 returns-in-Err c =
-    c.put_refusal.ensures ∙ ap (λ (n : ℕ). line_in (answer (refused n))) c.number.ensures ∙ sym (ap (λ (s : Said). line_in (answer s)) (ap given_said c.in-Err.is))
+    c.put_refusal.ensures ∙ sym (ap (λ (s : Said). line_in (answer s)) (ap given_said c.in-Err.is))

@@ -4,6 +4,7 @@ use mathlib.Core.Path.{◌≡◌, refl, ap, ◌∙◌}
 use Prim.Native.Nat.{◌+◌}
 use lib.ListN.{length}
 use borrow.Author.Tests.{eq-eqb, ne_eqb}
+use Rattle.foundation.specs.Refusals.{refusal_number}
 use Rattle.transactions.specs.Answers.{Said, given_said}
 use Rattle.receiver.proofs.Ends.{end_said}
 use Rattle.receiver_state.specs.Receiver.{store_size}
@@ -34,7 +35,7 @@ returns-in-Restart c =
     rw (c.in-Restart.is, eq-eqb (length c.args.octets.now) (2 + store_size) c.if-n.true) c.record_restart.ensures
 
 pub returns-in_default : goal.returns-in_default
-unfolding record_by after_record line_of
+unfolding record_by after_record line_of refusal_number
 returns-in_default c =
     let a = c.args in
     let none_comes : record_by a.kind a.octets.now ≡ none = elim c.in_default.branch [
