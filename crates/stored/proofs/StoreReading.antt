@@ -42,7 +42,7 @@ pub receiver_is : (a : List ℕ) (own source : RadioAddress) (flags : List ℕ) 
       own = own;
       phase = get_or a 4 0;
       transaction = record { source = source; sap = get_or a 11 0; ns = get_or a 12 0; pad = get_or a 13 0; blocks = get_or a 14 0 };
-      flags = flags;
+      flags = record { octets = flags };
     } ≡ receiver_in a
 unfolding receiver_in
 receiver_is a own source flags h e f g =

@@ -10,7 +10,7 @@ ghost use Rattle.stored.specs.Parts.{usable as usable·receiver};
 use crate::saving::FORM;
 use messages::message::{BLOCK, MOST_BLOCKS};
 use receiver_state::{Receiver, STORE};
-use transactions::flags::FLAG_OCTETS;
+use transactions::flags::Flags;
 
 pub mod restoring;
 pub mod saving;
@@ -24,13 +24,13 @@ fn usable(rx: Receiver, store: usize, form: usize) -> bool
 }
 
 // The store with zeros for the octets of blocks not held: a copy of whole blocks.
-fn held_store(flags: [u8; FLAG_OCTETS], store: &[u8]) -> [u8; STORE]
+fn held_store(flags: Flags, store: &[u8]) -> [u8; STORE]
     requires { length store.now ≡ store_size }
-    ensures { result ≡ held_octets (flagged flags) (λ i. get_or store.now i 0) 0 store_size }
+    ensures { result ≡ held_octets (flagged flags.octets) (λ i. get_or store.now i 0) 0 store_size }
 {
     let mut held = [0u8; STORE];
     for n in 0..MOST_BLOCKS {
-        if transactions::flags::is_set(flags, n) {
+        if flags.is_set(n) {
             let at = BLOCK * n;
             let end = at + BLOCK;
             foundation::octets::put(&mut held, at, &store[at..end]);

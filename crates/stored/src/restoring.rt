@@ -11,7 +11,7 @@ use addresses::RadioAddress;
 use foundation::refusal::Refusal;
 use messages::message::BLOCK;
 use receiver_state::{Receiver, STORE};
-use transactions::flags::FLAG_OCTETS;
+use transactions::flags::{FLAG_OCTETS, Flags};
 use transactions::header::Transaction;
 
 // ---- what a stored form holds
@@ -30,13 +30,13 @@ fn receiver_in(a: &[u8]) -> Receiver
         pad: a[13],
         blocks: a[14],
     };
-    let mut flags = [0u8; FLAG_OCTETS];
-    foundation::octets::put(&mut flags, 0, &a[15..STORE_AT_0]);
+    let mut octets = [0u8; FLAG_OCTETS];
+    foundation::octets::put(&mut octets, 0, &a[15..STORE_AT_0]);
     Receiver {
         own,
         phase: a[4],
         transaction,
-        flags,
+        flags: Flags { octets },
     }
 }
 

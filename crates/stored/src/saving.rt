@@ -44,12 +44,12 @@ fn check_at(to: &mut [u8], at: usize)
 
 // The first 23 octets of block 0.
 fn head(rx: Receiver, s0: u8, s1: u8) -> [u8; 23]
-    ensures { result ≡ head0 rx.own rx.phase rx.transaction rx.flags s0 s1 }
+    ensures { result ≡ head0 rx.own rx.phase rx.transaction rx.flags.octets s0 s1 }
 {
     let t = rx.transaction;
     let own = addresses::radio_octets(rx.own);
     let source = addresses::radio_octets(t.source);
-    let f = rx.flags;
+    let f = rx.flags.octets;
     [
         1, 0, s0, s1, rx.phase, own[0], own[1], own[2], source[0], source[1], source[2], t.sap,
         t.ns, t.pad, t.blocks, f[0], f[1], f[2], f[3], f[4], f[5], f[6], f[7],

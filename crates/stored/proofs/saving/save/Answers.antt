@@ -44,7 +44,7 @@ pub returns : goal.returns
 unfolding head1 zeros outcome
 returns c =
     let x = c.args in
-    let eight : length x.rx.flags ≡ flag_octet_count = search (rules, c.well_formed) in
+    let eight : length x.rx.flags.octets ≡ flag_octet_count = search (rules, c.well_formed) in
     let u = sym c.usable.ensures ∙ c.if-not-usable.false in
     let p = save_taken x.rx x.store.now x.form.now x.s0 x.s1 u in
     let w = written x.rx x.store.now x.s0 x.s1 eight _ _ c.head-first.ensures c.held_store-held.ensures x.form.now c.put.new.to c.put-2.new.to c.check_at.new.to c.put-3.new.to c.put-4.new.to c.put-5.new.to c.check_at-2.new.to
