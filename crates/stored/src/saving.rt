@@ -62,7 +62,10 @@ pub fn save(rx: Receiver, store: &[u8], s0: u8, s1: u8, form: &mut [u8]) -> Resu
         × (form.new ≡ after_save rx store.now s0 s1 form.old)
         × (Savable rx store.now → Restores rx store.now s0 s1) }
 {
-    if !crate::usable(rx, store.len(), form.len()) {
+    let Some(store) = store.as_array::<STORE>() else {
+        return Err(Refusal::Size);
+    };
+    if !receiver_state::is_good(rx) || form.len() != FORM {
         return Err(Refusal::Size);
     }
     let held = crate::held_store(rx.flags, store);

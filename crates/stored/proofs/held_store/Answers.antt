@@ -21,7 +21,7 @@ loop-n-preserved c =
     let h : l.n < most_blocks = c.loop-n-test.true in (
       omega arith,
       elim c.if-is_set.branch [
-        | then-is_set w ↦ block_copied f c.args.store.now l.n l.held h l.invariant.1 c.if-is_set.held (s ∙ w.if-is_set.true) c.requires (w.held-is ∙ w.put.ensures)
+        | then-is_set w ↦ block_copied f c.args.store.now l.n l.held h l.invariant.1 c.if-is_set.held (s ∙ w.if-is_set.true) c.told-store (w.held-is ∙ w.put.ensures)
         | else-is_set w ↦ block-left f c.args.store.now l.n l.held h l.invariant.1 c.if-is_set.held (s ∙ w.if-is_set.false) w.held-is
       ],
     )
