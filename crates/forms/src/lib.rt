@@ -98,7 +98,7 @@ fn act_on(
     octets: &[u8],
     line: &mut [u8],
 ) -> Result<(), Refusal>
-    requires { Savable rx store.old × Octets rx.flags × (length form.old ≡ 2 * stored_block) × (length line.old ≡ line_size)
+    requires { Savable rx store.old × Octets rx.flags.octets × (length form.old ≡ 2 * stored_block) × (length line.old ≡ line_size)
         × AnEvent kind octets.now }
     ensures { Answered (state_of rx store.old) (record_of kind octets.now) s0 s1 form.old line.old
         result form.new line.new }
