@@ -87,7 +87,7 @@ numbered s (block b) =
     either (eqb (block_refusal s.receiver s.store b) 0)
     (λ a. either (held s.receiver (serial_of b)) (λ c. simp (a, c) tt)
     (λ c. simp (a, c)
-    (taken-numbered (changed s.receiver 1 (with_flag s.receiver.flags (serial_of b))) (put_block s.store (serial_of b) (data_of b))
+    (taken-numbered (changed s.receiver 1 (with_flag s.receiver.flags.octets (serial_of b))) (put_block s.store (serial_of b) (data_of b))
     (put_block s.store (serial_of b) (data_of b)))))
     (λ a. simp a (eqb-false (block_refusal s.receiver s.store b) 0 a))
 numbered s ended =

@@ -106,7 +106,7 @@ module _ (s : State) (s0 s1 : ℕ) (form line out : List ℕ) where
   acted_taken r h = subst Taken (sym h.is) (event-taken h.what)
 
 -- what is saved after an event
-module _ (rx : Receiver) (store : List ℕ) (m : Savable rx store) (small : Octets rx.flags) where
+module _ (rx : Receiver) (store : List ℕ) (m : Savable rx store) (small : Octets rx.flags.octets) where
   abbrev SavableAfter : Record → Type 0
   SavableAfter r = Savable (after_record (state_of rx store) r).receiver (after_record (state_of rx store) r).store
 

@@ -30,7 +30,7 @@ no_octets = replicate store_size 0
 pub length_none : length no_octets ≡ store_size
 length_none = length-replicate {A = ℕ} store_size 0
 
-flags-small : (form : List ℕ) → Octets form → Octets (receiver_in (block0 form)).flags
+flags-small : (form : List ℕ) → Octets form → Octets (receiver_in (block0 form)).flags.octets
 unfolding receiver_in block0
 flags-small form small =
     let a = take stored_block form in octets-take flag_octet_count (drop 15 a) (octets-drop 15 a (octets-take stored_block form small))
@@ -78,6 +78,6 @@ module _ (form store : List ℕ) (es : store ≡ after_restore (fresh_receiver (
     unfolding state_in
     state_savable = subst (λ (s : State). Savable s.receiver s.store) (sym state_is) (savable (fresh_receiver (address_at form 5)) form no_octets no_number)
 
-    pub state_flags : Octets form → Octets rx.flags
+    pub state_flags : Octets form → Octets rx.flags.octets
     unfolding state_in
-    state_flags small = subst (λ (s : State). Octets s.receiver.flags) (sym state_is) (flags-small form small)
+    state_flags small = subst (λ (s : State). Octets s.receiver.flags.octets) (sym state_is) (flags-small form small)

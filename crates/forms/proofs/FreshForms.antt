@@ -20,7 +20,7 @@ use Rattle.foundation.proofs.Refusals.{ok_zero, ok_same, err_number, err_any}
 use Rattle.receiver_state.specs.Receiver.{Fresh, fresh_receiver, fresh_for, fresh_given}
 use Rattle.receiver_state.specs.declared.Receiver.{Receiver}
 use Rattle.stored.specs.Stored.{stored_block, save_number, after_save}
-use Rattle.stored.proofs.Numbers.{form_usable, save_taken}
+use Rattle.stored.proofs.Numbers.{is_usable, save_taken}
 use Rattle.stored.proofs.RestoredBack.{fresh_good}
 use Rattle.history.proofs.Follows.{fresh_fits}
 use Rattle.forms.specs.Forms.{fresh_form, fresh_number, after_fresh}
@@ -70,6 +70,6 @@ module _ (own : RadioAddress) (s0 s1 : ℕ) (form : List ℕ) where
       pub fresh_made : (save_number rx no_octets form ≡ fresh_number own form) × (after_save rx no_octets s0 s1 form ≡ after_fresh own s0 s1 form)
       unfolding after_fresh fresh_form
       fresh_made =
-          let usable = sym (form_usable (fresh_receiver own) (length no_octets) (length form) (fresh_good own fits) length_none) ∙ eq-eqb (length form) (2 * stored_block) size in
+          let usable = is_usable (fresh_receiver own) (length no_octets) (length form) (fresh_good own fits) length_none size in
           let p = save_taken (fresh_receiver own) no_octets form s0 s1 usable in
           rw (receiver_is, number_is) (sym p.0, sym p.1)

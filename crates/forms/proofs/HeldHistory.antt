@@ -61,7 +61,7 @@ module _ (f : ℕ → Bool) (octets : ℕ → List ℕ) where
 
 -- ---- the history
 
-module _ (rx : Receiver) (store : List ℕ) (m : Savable rx store) (small : Octets rx.flags) where
+module _ (rx : Receiver) (store : List ℕ) (m : Savable rx store) (small : Octets rx.flags.octets) where
   abbrev history : History
   history = record { phase = rx.phase; transaction = rx.transaction; kept = kept_below (held rx) (block_at store) flag_count }
 
@@ -70,7 +70,7 @@ module _ (rx : Receiver) (store : List ℕ) (m : Savable rx store) (small : Octe
     where
       go : Dec (n < flag_count) → n < flag_count
       go (yes l) = l
-      go (no l) = never e (flagged_far rx.flags n m.flags (omega arith))
+      go (no l) = never e (flagged_far rx.flags.octets n m.flags (omega arith))
 
   flags_agree : (n : ℕ) → held rx n ≡ holds history.kept n
   flags_agree n =
@@ -92,14 +92,14 @@ module _ (rx : Receiver) (store : List ℕ) (m : Savable rx store) (small : Octe
   unfolding receiver_good
   fields = all-at _ 2 m.good
 
-  none_past_lem : none_from rx.transaction.blocks rx.flags flag_count ≡ true
+  none_past_lem : none_from rx.transaction.blocks rx.flags.octets flag_count ≡ true
   unfolding receiver_good
   none_past_lem = all-at _ 3 m.good
 
   below : (n : ℕ) → held rx n ≡ true → n < rx.transaction.blocks
   unfolding none_from
   below n e =
-      let t = every-at flag_count (λ i. cond (ltb i rx.transaction.blocks) true (not (flagged rx.flags i))) (subst T (sym none_past_lem) tt) n (few n e) in
+      let t = every-at flag_count (λ i. cond (ltb i rx.transaction.blocks) true (not (flagged rx.flags.octets i))) (subst T (sym none_past_lem) tt) n (few n e) in
       either (ltb n rx.transaction.blocks) (λ l. ltb-true n rx.transaction.blocks l) (λ l. absurd (simp (l, e) at t))
 
   missing : rx.phase ≡ 1 → all_held rx ≡ false

@@ -118,7 +118,7 @@ answer_small s (block b) =
     either (eqb (block_refusal s.receiver s.store b) 0)
     (λ a. either (held s.receiver (serial_of b)) (λ c. simp (a, c) (omega arith))
     (λ c. simp (a, c)
-    (put_small (changed s.receiver 1 (with_flag s.receiver.flags (serial_of b))) (put_block s.store (serial_of b) (data_of b))
+    (put_small (changed s.receiver 1 (with_flag s.receiver.flags.octets (serial_of b))) (put_block s.store (serial_of b) (data_of b))
     (put_block s.store (serial_of b) (data_of b)))))
     (λ a. simp a (block_small s.receiver s.store b))
 answer_small s ended =

@@ -81,7 +81,7 @@ fn act_on(
     octets: &[u8],
     line: &mut [u8; LINE],
 ) -> Result<(), Refusal>
-    requires { Savable rx store.old × Octets rx.flags × AnEvent kind octets.now }
+    requires { Savable rx store.old × Octets rx.flags.octets × AnEvent kind octets.now }
     ensures { Answered (state_of rx store.old) (record_of kind octets.now) stamp.high stamp.low form.old line.old
         result form.new line.new }
 {

@@ -127,7 +127,7 @@ module _ (own : RadioAddress) (s : State) (p : History) (m : Follows own s p) (b
       next_store = put_block s.store (serial_of b) (data_of b)
 
       abbrev next_flags : List ℕ
-      next_flags = with_flag s.receiver.flags (serial_of b)
+      next_flags = with_flag s.receiver.flags.octets (serial_of b)
 
       abbrev next_state : ℕ → State
       next_state phase = record { receiver = changed s.receiver phase next_flags; store = next_store }
@@ -145,7 +145,7 @@ module _ (own : RadioAddress) (s : State) (p : History) (m : Follows own s p) (b
       flags_new : (i : ℕ) → flagged next_flags i ≡ holds (keeping p b) i
       unfolding keeping
       flags_new i =
-          flagged_with s.receiver.flags (serial_of b) i m.flag_octets_lem (omega (arith, good-blocks p.transaction fields, below, m.places))
+          flagged_with s.receiver.flags.octets (serial_of b) i m.flag_octets_lem (omega (arith, good-blocks p.transaction fields, below, m.places))
           ∙ ap (cond (eqb (serial_of b) i) true) (m.agrees.flags i) ∙ sym (holds_more p.kept _ i)
 
       octets_new : (i : ℕ) → holds (keeping p b) i ≡ true → block_at next_store i ≡ held_data (keeping p b) i
@@ -175,8 +175,8 @@ module _ (own : RadioAddress) (s : State) (p : History) (m : Follows own s p) (b
         sound = sound;
         agrees = agrees_new phase;
         room = length-put s.store (serial_of b) (data_of b) fits size ∙ m.room;
-        places = length_with s.receiver.flags (serial_of b) ∙ m.places;
-        flag_octets_lem = octets_with s.receiver.flags (serial_of b) m.flag_octets_lem;
+        places = length_with s.receiver.flags.octets (serial_of b) ∙ m.places;
+        flag_octets_lem = octets_with s.receiver.flags.octets (serial_of b) m.flag_octets_lem;
       }
 
       abbrev emptied : History

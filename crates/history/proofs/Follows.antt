@@ -31,8 +31,8 @@ pub record Follows (own : RadioAddress) (s : State) (p : History) : Type 0 where
   pub sound : Sound p
   pub agrees : Agrees own s p
   pub room : length s.store ≡ store_size
-  pub places : length s.receiver.flags ≡ flag_octet_count
-  pub flag_octets_lem : Octets s.receiver.flags
+  pub places : length s.receiver.flags.octets ≡ flag_octet_count
+  pub flag_octets_lem : Octets s.receiver.flags.octets
 
 -- a test that is asked for where another is passed
 where_so : (t u : Bool) → (t ≡ true → u ≡ true) → cond t u true ≡ true
@@ -44,7 +44,7 @@ none-octets = octets-zeros flag_octet_count
 
 -- a receiver with nothing held and a history with nothing kept
 pub agrees_empty : (own : RadioAddress) (phase : ℕ) (t : Transaction) (store : List ℕ)
-    → Agrees own (record { receiver = record { own = own; phase = phase; transaction = t; flags = no_flags }; store = store })
+    → Agrees own (record { receiver = record { own = own; phase = phase; transaction = t; flags = record { octets = no_flags } }; store = store })
     (record { phase = phase; transaction = t; kept = [] })
 agrees_empty own phase t store = record {
   address = refl;
@@ -87,10 +87,10 @@ module _ (own : RadioAddress) (s : State) (p : History) (m : Follows own s p) wh
   unfolding all_held whole
   all_held_lem = ap (λ (t : Transaction). every t.blocks (held s.receiver)) m.agrees.transaction ∙ ap (every p.transaction.blocks) held_is
 
-  none_past_lem : none_from p.transaction.blocks s.receiver.flags flag_count ≡ true
+  none_past_lem : none_from p.transaction.blocks s.receiver.flags.octets flag_count ≡ true
   unfolding none_from
   none_past_lem =
-      every_true flag_count (λ i. cond (ltb i p.transaction.blocks) true (not (flagged s.receiver.flags i)))
+      every_true flag_count (λ i. cond (ltb i p.transaction.blocks) true (not (flagged s.receiver.flags.octets i)))
       (λ i l. either (held s.receiver i)
       (λ t. rw (lt-ltb i p.transaction.blocks (m.sound.below i (sym (m.agrees.flags i) ∙ t))))
       (λ t. either (ltb i p.transaction.blocks) (λ u. rw u) (λ u. rw (u, t))))

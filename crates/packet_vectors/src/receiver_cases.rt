@@ -8,6 +8,7 @@ use receiver::event::Answer;
 use receiver_state::{Receiver, STORE};
 use report::Report;
 use std::io::Write;
+use transactions::flags::Flags;
 use transactions::header::Transaction;
 
 // The response of a receiver that has 0 and 2 of three blocks, N(S) 5 and SAP 4, from 1a0b0c to 002104.
@@ -23,7 +24,7 @@ fn response() -> ResponseOctets {
         own: RadioAddress(0x002104),
         phase: 1,
         transaction,
-        flags: [5, 0, 0, 0, 0, 0, 0, 0],
+        flags: Flags::none().with(0).with(2),
     };
     receiver::event::on_end(rx).unwrap_or(ResponseOctets {
         header: [0u8; 12],

@@ -33,7 +33,7 @@ module _ (rx : Receiver) (t : Transaction) (full same : Bool) (is : same ≡ con
     unfolding on_heard
     by_short f = rw (← is, other, f)
 
-    pub by_opened : full ≡ true → answered (record { own = rx.own; phase = 1; transaction = t; flags = no_flags }) Opened ≡ on_heard rx t full
+    pub by_opened : full ≡ true → answered (record { own = rx.own; phase = 1; transaction = t; flags = record { octets = no_flags } }) Opened ≡ on_heard rx t full
     unfolding on_heard
     by_opened f = rw (← is, other, f)
 
@@ -67,6 +67,6 @@ module _ (rx : Receiver) where
   unfolding on_end
   end_not_good b = rw b
 
-  pub end_good : receiver_good rx ≡ true → response_to rx.own rx.phase rx.transaction (flagged rx.flags) ≡ on_end rx
+  pub end_good : receiver_good rx ≡ true → response_to rx.own rx.phase rx.transaction (flagged rx.flags.octets) ≡ on_end rx
   unfolding on_end
   end_good b = rw b

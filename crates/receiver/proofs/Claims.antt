@@ -43,7 +43,7 @@ never_refused rx store n e = go (all_held rx) (message_good (take (block_size * 
     by : Bool → Bool → Step
     by a b =
         cond a
-        (cond b (answered (changed rx 2 rx.flags) (Message (block_size * rx.transaction.blocks - check_size - rx.transaction.pad)))
+        (cond b (answered (changed rx 2 rx.flags.octets) (Message (block_size * rx.transaction.blocks - check_size - rx.transaction.pad)))
         (answered (changed rx 1 no_flags) Bad)) (answered rx Stored)
 
     go : (a b : Bool) → (by a b).answer ≡ Refused n → ⊥
@@ -59,7 +59,7 @@ block_refused rx store b n e = go (eqb (block_refusal rx store b) 0) (held rx (s
     next = put_block store (serial_of b) (data_of b)
 
     with : Receiver
-    with = changed rx 1 (with_flag rx.flags (serial_of b))
+    with = changed rx 1 (with_flag rx.flags.octets (serial_of b))
 
     kept : Answer → BlockLeft
     kept a = record { step = answered rx a; store = store }

@@ -40,14 +40,14 @@ module _ (rx : Receiver) (store b : List ℕ) where
     data_is : data_of b ≡ x.octets
     data_is = ap (λ (y : Block). y.octets) fields
 
-    pub left-repeat : flagged rx.flags x.serial ≡ true → ◌≡◌ {A = BlockLeft} (record { step = answered rx Repeat; store = store }) (on_block rx store b)
+    pub left-repeat : flagged rx.flags.octets x.serial ≡ true → ◌≡◌ {A = BlockLeft} (record { step = answered rx Repeat; store = store }) (on_block rx store b)
     unfolding on_block
     left-repeat h = rw (eq-eqb (block_refusal rx store b) 0 none, serial_is, h)
 
     abbrev next : List ℕ
     next = put_block store x.serial x.octets
 
-    pub left_new : flagged rx.flags x.serial ≡ false
-        → ◌≡◌ {A = BlockLeft} (record { step = taken (changed rx 1 (with_flag rx.flags x.serial)) next; store = next }) (on_block rx store b)
+    pub left_new : flagged rx.flags.octets x.serial ≡ false
+        → ◌≡◌ {A = BlockLeft} (record { step = taken (changed rx 1 (with_flag rx.flags.octets x.serial)) next; store = next }) (on_block rx store b)
     unfolding on_block
     left_new h = rw (eq-eqb (block_refusal rx store b) 0 none, serial_is, data_is, h)

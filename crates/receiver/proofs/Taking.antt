@@ -25,16 +25,16 @@ good-blocks t e =
     (few, leb-true _ _ (all-at _ 5 e), omega arith)
 
 module _ (rx : Receiver) (store : List ℕ) where
-  pub taken-stored : every rx.transaction.blocks (flagged rx.flags) ≡ false → answered rx Stored ≡ taken rx store
+  pub taken-stored : every rx.transaction.blocks (flagged rx.flags.octets) ≡ false → answered rx Stored ≡ taken rx store
   unfolding taken all_held
   taken-stored h = rw h
 
-  module _ (all : every rx.transaction.blocks (flagged rx.flags) ≡ true) where
+  module _ (all : every rx.transaction.blocks (flagged rx.flags.octets) ≡ true) where
     pub taken-bad : message_good (take (10 * rx.transaction.blocks) store) ≡ false → answered (changed rx 1 no_flags) Bad ≡ taken rx store
     unfolding taken all_held completed
     taken-bad g = rw (all, g)
 
     pub taken-message : message_good (take (10 * rx.transaction.blocks) store) ≡ true
-        → answered (changed rx 2 rx.flags) (Message (block_size * rx.transaction.blocks - check_size - rx.transaction.pad)) ≡ taken rx store
+        → answered (changed rx 2 rx.flags.octets) (Message (block_size * rx.transaction.blocks - check_size - rx.transaction.pad)) ≡ taken rx store
     unfolding taken all_held completed
     taken-message g = rw (all, g)

@@ -54,7 +54,7 @@ answered rx a = record { receiver = rx; answer = a }
 
 -- the receiver in another phase, with other flags
 abbrev pub changed : Receiver → ℕ → List ℕ → Receiver
-changed rx phase flags = record { own = rx.own; phase = phase; transaction = rx.transaction; flags = flags }
+changed rx phase flags = record { own = rx.own; phase = phase; transaction = rx.transaction; flags = record { octets = flags } }
 
 -- ---- a header
 
@@ -63,7 +63,7 @@ header_refusal rx h = cond (receiver_good rx) (heard_number rx.own h) 1
 
 -- a new transaction with nothing held
 unfoldable pub opened_by : Receiver → List ℕ → Receiver
-opened_by rx h = record { own = rx.own; phase = 1; transaction = transaction_of h; flags = no_flags }
+opened_by rx h = record { own = rx.own; phase = 1; transaction = transaction_of h; flags = record { octets = no_flags } }
 
 unfoldable pub on_header : Receiver → List ℕ → Step
 on_header rx h =
@@ -93,7 +93,7 @@ block_refusal rx store b =
 unfoldable pub completed : Receiver → List ℕ → Step
 completed rx store =
     cond (message_good (take (block_size * rx.transaction.blocks) store))
-    (answered (changed rx 2 rx.flags) (Message (block_size * rx.transaction.blocks - check_size - rx.transaction.pad)))
+    (answered (changed rx 2 rx.flags.octets) (Message (block_size * rx.transaction.blocks - check_size - rx.transaction.pad)))
     (answered (changed rx 1 no_flags) Bad)
 
 -- a new block stands in the store and is flagged
@@ -105,7 +105,7 @@ on_block rx store b =
     cond (eqb (block_refusal rx store b) 0)
     (cond (held rx (serial_of b)) (record { step = answered rx Repeat; store = store })
     (let next = put_block store (serial_of b) (data_of b) in
-    record { step = taken (changed rx 1 (with_flag rx.flags (serial_of b))) next; store = next }))
+    record { step = taken (changed rx 1 (with_flag rx.flags.octets (serial_of b))) next; store = next }))
     (record { step = answered rx (Refused (block_refusal rx store b)); store = store })
 
 -- ---- an end of attempt

@@ -14,7 +14,7 @@ use Rattle.receiver.specs.Events.{Refused, Opened, Repeat, Step, answered, block
 unfoldable pub on_heard : Receiver → Transaction → Bool → Step
 on_heard rx t full =
     cond (cond (eqb rx.phase 0) false (belongs rx.transaction t full)) (answered rx Repeat)
-    (cond full (answered (record { own = rx.own; phase = 1; transaction = t; flags = no_flags }) Opened) (answered rx (Refused 12)))
+    (cond full (answered (record { own = rx.own; phase = 1; transaction = t; flags = record { octets = no_flags } }) Opened) (answered rx (Refused 12)))
 
 -- what is given for the octets of a block
 unfoldable pub block_taken : Receiver → List ℕ → List ℕ → Result Block Refusal

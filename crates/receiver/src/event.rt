@@ -14,6 +14,7 @@ use messages::message::{BLOCK, CHECK};
 use messages::response::ResponseOctets;
 use packets::block::Block;
 use receiver_state::{Receiver, STORE};
+use transactions::flags::Flags;
 use transactions::header::Transaction;
 
 // What is answered to a header or a block. A message is the store's first octets, this many.
@@ -72,7 +73,7 @@ fn heard(rx: Receiver, t: Transaction, full: bool) -> Step
             own: rx.own,
             phase: 1,
             transaction: t,
-            flags: [0u8; 8],
+            flags: Flags::none(),
         },
         answer: Ok(Answer::Opened),
     }
@@ -124,7 +125,7 @@ fn block_taken(rx: Receiver, store: &[u8], octets: &[u8]) -> Result<Block, Refus
         return Err(Refusal::Serial);
     }
     let n = block.serial as usize;
-    if transactions::flags::is_set(rx.flags, n) && !same_block(store, n, block.octets) {
+    if rx.flags.is_set(n) && !same_block(store, n, block.octets) {
         return Err(Refusal::OtherOctets);
     }
     Ok(block)
@@ -136,7 +137,7 @@ fn taken_block(rx: Receiver, store: &[u8]) -> Step
     ensures { step_told result ≡ taken rx store.now }
 {
     let blocks = rx.transaction.blocks as usize;
-    if !transactions::flags::all_below(rx.flags, blocks) {
+    if !rx.flags.all_below(blocks) {
         return Step {
             receiver: rx,
             answer: Ok(Answer::Stored),
@@ -147,7 +148,7 @@ fn taken_block(rx: Receiver, store: &[u8]) -> Step
         return Step {
             receiver: Receiver {
                 phase: 1,
-                flags: [0u8; 8],
+                flags: Flags::none(),
                 ..rx
             },
             answer: Ok(Answer::Bad),
@@ -170,17 +171,16 @@ pub fn on_block(rx: Receiver, store: &mut [u8], octets: &[u8]) -> Step
         Err(refusal) => return Step::refused(rx, refusal),
     };
     let n = block.serial as usize;
-    if transactions::flags::is_set(rx.flags, n) {
+    if rx.flags.is_set(n) {
         return Step {
             receiver: rx,
             answer: Ok(Answer::Repeat),
         };
     }
     put_block(store, n, block.octets);
-    let flags = transactions::flags::with(rx.flags, n);
     let next = Receiver {
         phase: 1,
-        flags,
+        flags: rx.flags.with(n),
         ..rx
     };
     taken_block(next, store)

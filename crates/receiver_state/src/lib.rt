@@ -8,7 +8,7 @@ ghost use Rattle.receiver_state.specs.Parts.{flags_good};
 use addresses::RadioAddress;
 use foundation::refusal::Refusal;
 use messages::message::{BLOCK, CHECK, MOST_BLOCKS};
-use transactions::flags::FLAG_OCTETS;
+use transactions::flags::Flags;
 use transactions::header::Transaction;
 
 // Octets of the message store that a receiver is lent.
@@ -21,7 +21,7 @@ pub struct Receiver {
     pub own: RadioAddress,
     pub phase: u8,
     pub transaction: Transaction,
-    pub flags: [u8; FLAG_OCTETS],
+    pub flags: Flags,
 }
 
 // A receiver with no transaction.
@@ -40,7 +40,7 @@ pub fn idle(own: RadioAddress) -> Receiver
         own,
         phase: 0,
         transaction,
-        flags: [0u8; FLAG_OCTETS],
+        flags: Flags::none(),
     }
 }
 
@@ -92,11 +92,11 @@ fn fields_good(phase: u8, t: Transaction) -> bool
 
 // Whether the flags are those of the phase (a number, as in the receiver): not all while open, all when complete, none past the last block.
 #[tactic(auto, unfolding(crate::specs::Parts::flags_good, crate::specs::Receiver::none_from, foundation::specs::Order::all))]
-fn flags_good(phase: u8, blocks: usize, flags: [u8; FLAG_OCTETS]) -> bool
-    ensures { result ≡ flags_good phase blocks flags }
+fn flags_good(phase: u8, blocks: usize, flags: Flags) -> bool
+    ensures { result ≡ flags_good phase blocks flags.octets }
 {
-    let all = transactions::flags::all_below(flags, blocks);
-    let none_past = transactions::flags::none_from(flags, blocks);
+    let all = flags.all_below(blocks);
+    let none_past = flags.none_from(blocks);
     if phase == 1 {
         none_past && !all
     } else if phase == 2 {

@@ -36,10 +36,10 @@ form_ext own phase t flags octet other s0 s1 same =
     rw (held_ext (flagged flags) octet other same 0, held_ext (flagged flags) octet other same first_part)
 
 module _ (own : RadioAddress) (s : State) (p : History) (m : Follows own s p) where
-  flags_are : flag_octets (holds p.kept) ≡ s.receiver.flags
-  flags_are = ap flag_octets (sym (held_is own s p m)) ∙ octets_of_flags s.receiver.flags m.places m.flag_octets_lem
+  flags_are : flag_octets (holds p.kept) ≡ s.receiver.flags.octets
+  flags_are = ap flag_octets (sym (held_is own s p m)) ∙ octets_of_flags s.receiver.flags.octets m.places m.flag_octets_lem
 
-  octet_is : (i : ℕ) → flagged s.receiver.flags (i / block_size) ≡ true → get_or s.store i 0 ≡ get_or (held_data p.kept (i / block_size)) (i % block_size) 0
+  octet_is : (i : ℕ) → flagged s.receiver.flags.octets (i / block_size) ≡ true → get_or s.store i 0 ≡ get_or (held_data p.kept (i / block_size)) (i % block_size) 0
   octet_is i t =
       let k : block_size * (i / block_size) + i % block_size ≡ i = omega arith in
       ap (λ (j : ℕ). get_or s.store j 0) (sym k) ∙ sym (get_d_at s.store (i / block_size) (i % block_size) (omega arith))
@@ -49,5 +49,5 @@ module _ (own : RadioAddress) (s : State) (p : History) (m : Follows own s p) wh
   unfolding saved_form saved history_form
   form_is s0 s1 =
       rw (flags_are, m.agrees.address, m.agrees.phase, m.agrees.transaction)
-      (form_ext own p.phase p.transaction s.receiver.flags (λ i. get_or s.store i 0)
+      (form_ext own p.phase p.transaction s.receiver.flags.octets (λ i. get_or s.store i 0)
       (λ i. get_or (held_data p.kept (i / block_size)) (i % block_size) 0) s0 s1 octet_is)

@@ -175,7 +175,7 @@ end_twelves rx =
     (λ t. rw t (refl, refl))
 
 line_fits : (s : State) (r : Record) → length s.store ≤ 2 * stored_block → length (after_record s r).store ≤ 2 * stored_block
-    → length s.receiver.flags ≡ flag_octet_count → Fits (line_of s r)
+    → length s.receiver.flags.octets ≡ flag_octet_count → Fits (line_of s r)
 unfolding line_of answer_to after_record after_event saved_form saved
 line_fits s (act (event (header h))) before after eight = said_fits _ s.store before
 line_fits s (act (event (block b))) before after eight = said_fits _ _ after
@@ -185,5 +185,5 @@ line_fits s none before after eight = tt
 
 -- a line's text is that of its octets
 pub line_text_lem : (s : State) (r : Record) → length s.store ≤ 2 * stored_block → length (after_record s r).store ≤ 2 * stored_block
-    → length s.receiver.flags ≡ flag_octet_count → octets_line (line_in (line_of s r)) ≡ line_text (line_of s r)
+    → length s.receiver.flags.octets ≡ flag_octet_count → octets_line (line_in (line_of s r)) ≡ line_text (line_of s r)
 line_text_lem s r before after eight = line_back (line_of s r) (line_fits s r before after eight)

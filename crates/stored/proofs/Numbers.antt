@@ -1,40 +1,55 @@
 -- The numbers of saving and restoring, one test after the other, and what is left after each.
 -- Assumes nothing.
-use mathlib.Core.Path.{◌≡◌, refl, sym, ap, ◌∙◌}
+use mathlib.Core.Path.{◌≡◌, sym, ap, ◌∙◌}
 use mathlib.Core.Bool.{Bool, true, false, cond}
 use mathlib.Core.List.{List, [], ◌∷◌, ◌++◌}
 use mathlib.Core.Logic.{◌≢◌}
-use Prim.Native.Nat.{ℕ, ◌+◌, ◌*◌, ◌-◌, ◌%◌}
+use Prim.Native.Nat.{ℕ, ◌+◌, ◌*◌, ◌%◌}
 use native.Mathlib.Omega.{arith}
 use borrow.Author.Tests.{eq-eqb, ne_eqb, eqb-true}
 use lib.Dec.{eqb}
-use lib.ListN.{length, get_or, take, drop, length-drop}
-use lib.Seq.{take_all, length-take-le}
+use lib.ListN.{length, get_or}
 use Rattle.addresses.specs.Octets.{number_at}
 use Rattle.std.specs.Prelude.{Ok, Err}
 use Rattle.foundation.specs.Order.{first_failed, all}
 use Rattle.foundation.specs.Refusals.{outcome}
 use Rattle.foundation.specs.declared.refusal.Refusal.{Refusal}
 use Rattle.foundation.proofs.Refusals.{err_number, err_any}
-use Rattle.foundation.proofs.Tests.{either, last, not-true, choose, same_test}
+use Rattle.foundation.proofs.Tests.{either, not-true, choose, same_test}
 use Rattle.checks.specs.Checks.{header_good}
 use Rattle.foundation.proofs.Order.{all_nil, all_cons, all-at, all_append, alike_first}
 use Rattle.packets.proofs.Octets.{Octets}
 use Rattle.receiver_state.specs.Receiver.{store_size, receiver_good}
 use Rattle.receiver_state.specs.declared.Receiver.{Receiver}
 use Rattle.stored.specs.Stored.{stored_block, zeros_at, zero_part, saved, save_number, after_save, block0, block1, receiver_in, store_in, zeros_from, clear, layout_tests, restore_tests, restore_number, restored, restored_given, after_restore}
-use Rattle.stored.specs.Parts.{usable, marked, message_checked, layout_kept, blocks_number}
+use Rattle.stored.specs.Parts.{marked, message_checked, layout_kept, blocks_number}
 
 -- ---- receivers and sizes
 
+-- what a receiver and the sizes of its store and of a stored form must be
+pub usable : Receiver → ℕ → ℕ → Bool
+usable rx store form = all (receiver_good rx ∷ eqb store store_size ∷ eqb form (2 * stored_block) ∷ [])
+
 module _ (rx : Receiver) (store form : ℕ) where
+  pub is_usable : receiver_good rx ≡ true → store ≡ store_size → form ≡ 2 * stored_block → usable rx store form ≡ true
+  unfolding usable
+  is_usable g s f = all_cons _ g (all_cons _ (eq-eqb store store_size s) (all_cons _ (eq-eqb form (2 * stored_block) f) all_nil))
+
+  pub not_good : receiver_good rx ≡ false → usable rx store form ≡ false
+  unfolding usable all
+  not_good g = rw g
+
+  pub other_store : store ≢ store_size → usable rx store form ≡ false
+  unfolding usable
+  other_store d = not-true (usable rx store form) (λ e. d (eqb-true store store_size (all-at _ 1 e)))
+
+  pub other_form : form ≢ 2 * stored_block → usable rx store form ≡ false
+  unfolding usable
+  other_form d = not-true (usable rx store form) (λ e. d (eqb-true form (2 * stored_block) (all-at _ 2 e)))
+
   pub usable_sizes : usable rx store form ≡ true → (store ≡ store_size) × (form ≡ 2 * stored_block)
   unfolding usable
   usable_sizes e = (eqb-true store store_size (all-at _ 1 e), eqb-true form (2 * stored_block) (all-at _ 2 e))
-
-  pub form_usable : receiver_good rx ≡ true → store ≡ store_size → eqb form (2 * stored_block) ≡ usable rx store form
-  unfolding usable all
-  form_usable g r = sym (rw (g, eq-eqb store store_size r) (sym (last _)))
 
   usable-first : (us : List (Bool × ℕ))
       → first_failed ((receiver_good rx, 1) ∷ (eqb store store_size, 1) ∷ (eqb form (2 * stored_block), 1) ∷ us) ≡ cond (usable rx store form) (first_failed us) 1
@@ -88,23 +103,6 @@ module _ (a b : List ℕ) (rx : Receiver) (store : List ℕ) where
 
 -- ---- restoring
 
--- the two blocks of a form
-pub first_block : (form : List ℕ) → take stored_block form ≡ block0 form
-unfolding block0
-first_block form = refl
-
-pub second_block : (form : List ℕ) → take (length form - stored_block) (drop stored_block form) ≡ block1 form
-unfolding block1
-second_block form = take_all (length form - stored_block) (drop stored_block form) (omega (arith, length-drop stored_block form))
-
-pub block_sizes : (form : List ℕ) → length form ≡ 2 * stored_block
-    → (length (take stored_block form) ≡ stored_block) × (length (take (length form - stored_block) (drop stored_block form)) ≡ stored_block)
-block_sizes form e = (
-  length-take-le stored_block form (omega arith),
-  ap length (take_all (length form - stored_block) (drop stored_block form) (omega (arith, length-drop stored_block form)))
-      ∙ length-drop stored_block form ∙ omega arith,
-)
-
 module _ (rx : Receiver) (form store : List ℕ) where
   -- those of one number are one
   number_steps : restore_number rx form store
@@ -128,6 +126,10 @@ module _ (rx : Receiver) (form store : List ℕ) where
 
   pub number_1 : usable rx (length store) (length form) ≡ false → 1 ≡ restore_number rx form store
   number_1 u = sym (number_steps ∙ rw u)
+
+  pub refused_1 : usable rx (length store) (length form) ≡ false
+      → (outcome 1 rx ≡ restored_given (restored rx form store)) × (store ≡ after_restore rx form store)
+  refused_1 u = restored-refused 1 (number_1 u) (λ z. omega arith)
 
   pub sizes : restore_number rx form store ≡ 0 → (length store ≡ store_size) × (length form ≡ 2 * stored_block)
   sizes e =

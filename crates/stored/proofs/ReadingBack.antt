@@ -50,10 +50,10 @@ module _ (os : List ℕ) where
 
 -- the octets before the checks, of a receiver and octet i of its store
 abbrev pub written0 : Receiver → (ℕ → ℕ) → ℕ → ℕ → List ℕ
-written0 rx octet s0 s1 = body0 rx.own rx.phase rx.transaction rx.flags octet s0 s1
+written0 rx octet s0 s1 = body0 rx.own rx.phase rx.transaction rx.flags.octets octet s0 s1
 
 abbrev pub written1 : Receiver → (ℕ → ℕ) → ℕ → ℕ → List ℕ
-written1 rx octet s0 s1 = body1 rx.flags octet s0 s1
+written1 rx octet s0 s1 = body1 rx.flags.octets octet s0 s1
 
 -- how the two blocks start
 pub record Starts (a b : List ℕ) : Type 0 where
@@ -87,7 +87,7 @@ zeros-at i h = get_or-replicate zero_part i 0 0 h
 
 module _ (rx : Receiver) (s0 s1 : ℕ) where
   abbrev pub head : List ℕ
-  head = head0 rx.own rx.phase rx.transaction rx.flags s0 s1
+  head = head0 rx.own rx.phase rx.transaction rx.flags.octets s0 s1
 
   length_fields : length (fields rx s0 s1) ≡ 15
   unfolding fields
@@ -97,12 +97,12 @@ module _ (rx : Receiver) (s0 s1 : ℕ) where
   unfolding head1
   length_head1 = refl
 
-  pub head_parts : head ≡ fields rx s0 s1 ++ rx.flags
+  pub head_parts : head ≡ fields rx s0 s1 ++ rx.flags.octets
   unfolding head0 fields
   head_parts = refl
 
-  pub length_head : length rx.flags ≡ flag_octet_count → length head ≡ store_at0
-  length_head eight = ap length head_parts ∙ length-append (fields rx s0 s1) rx.flags ∙ omega (arith, length_fields)
+  pub length_head : length rx.flags.octets ≡ flag_octet_count → length head ≡ store_at0
+  length_head eight = ap length head_parts ∙ length-append (fields rx s0 s1) rx.flags.octets ∙ omega (arith, length_fields)
 
 module _ (rx : Receiver) (octet : ℕ → ℕ) (s0 s1 : ℕ) where
   abbrev first : List ℕ
@@ -127,7 +127,7 @@ module _ (rx : Receiver) (octet : ℕ → ℕ) (s0 s1 : ℕ) where
 
   -- ---- the stored form
 
-  module _ (eight : length rx.flags ≡ flag_octet_count) where
+  module _ (eight : length rx.flags.octets ≡ flag_octet_count) where
     pub length_written0 : length (written0 rx octet s0 s1) ≡ checked_size
     unfolding body0
     length_written0 = length-append (head rx s0 s1) first ∙ omega (arith, length_head rx s0 s1 eight, length-first)
@@ -145,7 +145,7 @@ module _ (rx : Receiver) (octet : ℕ → ℕ) (s0 s1 : ℕ) where
     check1 = check_octets (written1 rx octet s0 s1)
 
     abbrev form : List ℕ
-    form = stored_form rx.own rx.phase rx.transaction rx.flags octet s0 s1
+    form = stored_form rx.own rx.phase rx.transaction rx.flags.octets octet s0 s1
 
     length_a : length a ≡ stored_block
     length_a = length-checked (written0 rx octet s0 s1) ∙ omega (arith, length_written0)
@@ -175,9 +175,9 @@ module _ (rx : Receiver) (octet : ℕ → ℕ) (s0 s1 : ℕ) where
 
     -- ---- the receiver
 
-    flags_back : take flag_octet_count (drop 15 a) ≡ rx.flags
+    flags_back : take flag_octet_count (drop 15 a) ≡ rx.flags.octets
     flags_back =
-        middle a (fields rx s0 s1) rx.flags (first ++ check0) 15 flag_octet_count
+        middle a (fields rx s0 s1) rx.flags.octets (first ++ check0) 15 flag_octet_count
         (a_parts ∙ append_assoc (head rx s0 s1) first check0 ∙ ap (λ (l : List ℕ). l ++ (first ++ check0)) (head_parts rx s0 s1))
         (length_fields rx s0 s1) eight
 
@@ -193,7 +193,7 @@ module _ (rx : Receiver) (octet : ℕ → ℕ) (s0 s1 : ℕ) where
       own = address_at a 5;
       phase = rx.phase;
       transaction = record { source = address_at a 8; sap = rx.transaction.sap; ns = rx.transaction.ns; pad = rx.transaction.pad; blocks = rx.transaction.blocks };
-      flags = take flag_octet_count (drop 15 a);
+      flags = record { octets = take flag_octet_count (drop 15 a) };
     }
     unfolding receiver_in with_stored_check body0 head0
     others_back = refl

@@ -20,15 +20,15 @@ use Rattle.stored.proofs.ReadingBack.{check_octets, length-checked, written0, wr
 use Rattle.foundation.proofs.Copying.{Grown, grown_none, grown_put, grown_all}
 
 -- the head, octet by octet
-pub head_is : (rx : Receiver) (s0 s1 : ℕ) (os ts : List ℕ) → length rx.flags ≡ flag_octet_count → os ≡ three_octets rx.own.0
+pub head_is : (rx : Receiver) (s0 s1 : ℕ) (os ts : List ℕ) → length rx.flags.octets ≡ flag_octet_count → os ≡ three_octets rx.own.0
     → ts ≡ three_octets rx.transaction.source.0
     → (1 ∷ 0 ∷ s0 ∷ s1 ∷ rx.phase ∷ tabulate 3 (λ i. get_or os i 0)) ++ tabulate 3 (λ i. get_or ts i 0)
-    ++ (rx.transaction.sap ∷ rx.transaction.ns ∷ rx.transaction.pad ∷ rx.transaction.blocks ∷ []) ++ tabulate flag_octet_count (λ i. get_or rx.flags i 0)
+    ++ (rx.transaction.sap ∷ rx.transaction.ns ∷ rx.transaction.pad ∷ rx.transaction.blocks ∷ []) ++ tabulate flag_octet_count (λ i. get_or rx.flags.octets i 0)
     ≡ head rx s0 s1
 unfolding head0 fields
 head_is rx s0 s1 os ts eight eo et =
     rw (eo, et)
-    (ap (λ (l : List ℕ). fields rx s0 s1 ++ l) (sym (tabulated flag_octet_count (λ i. get_or rx.flags i 0) rx.flags eight (λ i h. refl))))
+    (ap (λ (l : List ℕ). fields rx s0 s1 ++ l) (sym (tabulated flag_octet_count (λ i. get_or rx.flags.octets i 0) rx.flags.octets eight (λ i h. refl))))
 
 -- a body behind what was written, and its check behind it
 module _ (p body d m m' : List ℕ) (at n : ℕ) (before : length p ≡ at) (size : length body ≡ n) (room : at + n + 2 ≤ length d)
@@ -48,7 +48,7 @@ module _ (p body d m m' : List ℕ) (at n : ℕ) (before : length p ≡ at) (siz
       o ∙ ap (λ (l : List ℕ). put m (at + n) (check_octets l)) body_is
       ∙ rw whole at (grown_put d (p ++ body) (check_octets body) m (at + n) (length-append p body ∙ omega arith) room g)
 
-module _ (rx : Receiver) (store : List ℕ) (s0 s1 : ℕ) (eight : length rx.flags ≡ flag_octet_count) where
+module _ (rx : Receiver) (store : List ℕ) (s0 s1 : ℕ) (eight : length rx.flags.octets ≡ flag_octet_count) where
   abbrev octet : ℕ → ℕ
   octet = λ i. get_or store i 0
 

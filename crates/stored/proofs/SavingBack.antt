@@ -193,7 +193,7 @@ module _ (rx : Receiver) (form store : List ℕ) (none : restore_number rx form 
   unfolding block1
   size1 = length-drop stored_block form ∙ omega (arith, length_form)
 
-  eight : length (receiver_in a).flags ≡ flag_octet_count
+  eight : length (receiver_in a).flags.octets ≡ flag_octet_count
   unfolding receiver_in
   eight = length-take-le flag_octet_count (drop 15 a) (omega (arith, length-drop 15 a, size0))
 

@@ -8,26 +8,22 @@ use native.Mathlib.Nat.{zero-add}
 use native.Mathlib.Omega.{arith}
 use borrow.Author.Tests.{eq-eqb, eqb-true}
 use lib.Dec.{eqb}
-use lib.ListN.{length, get_or, take, drop, replicate, length-append, length-drop}
+use lib.ListN.{length, get_or, take, drop, replicate, length-append, length-drop, length-replicate}
 use lib.Seq.{length-take-le, get_or-take, get_or-drop, ext_get_or}
 use Rattle.std.specs.Cmp.Lexicographic.{pointwise, same_text}
 use Rattle.std.proofs.lemmas.Cmp.{nat_list_eq_equiv}
-use Rattle.addresses.specs.Octets.{address_at}
-use Rattle.addresses.specs.declared.RadioAddress.{RadioAddress}
 use Rattle.foundation.specs.Bits.{tabulate}
 use Rattle.foundation.proofs.Runs.{tabulated}
 use Rattle.foundation.specs.Octets.{put}
-use Rattle.foundation.proofs.Copying.{put_all, put_both}
+use Rattle.foundation.proofs.Copying.{put_both}
 use Rattle.foundation.proofs.Filling.{get_d_zeros}
 use Rattle.foundation.specs.Order.{every}
 use Rattle.foundation.proofs.Every.{every_held}
 use Rattle.foundation.proofs.Tests.{every_ext, every_true, same_test}
 use Rattle.messages.specs.Messages.{block_size}
-use Rattle.transactions.specs.Flags.{flag_octet_count}
 use Rattle.receiver_state.specs.Receiver.{store_size, held}
 use Rattle.receiver_state.specs.declared.Receiver.{Receiver}
-use Rattle.stored.specs.Stored.{stored_block, first_part, second_part, store_at0, store_at1, held_octets, receiver_in, store_in, zeros_from, clear}
-use Rattle.stored.specs.Parts.{same_octets}
+use Rattle.stored.specs.Stored.{stored_block, first_part, second_part, store_at0, store_at1, held_octets, store_in, zeros_from, clear}
 use Rattle.stored.proofs.HeldOctets.{length-held, held_at}
 
 -- the octets of a part
@@ -35,19 +31,6 @@ pub part_tabulated : (os : List ℕ) (at n : ℕ) → at + n ≤ length os → t
 part_tabulated os at n h =
     tabulated n (λ i. get_or os (at + i) 0) (take n (drop at os)) (length-take-le n (drop at os) (omega (arith, length-drop at os)))
     (λ i l. get_or-take n (drop at os) i 0 l ∙ get_or-drop at os i 0)
-
-pub receiver_is : (a : List ℕ) (own source : RadioAddress) (flags : List ℕ) → 23 ≤ length a → own ≡ address_at a 5 → source ≡ address_at a 8
-    → flags ≡ put (replicate flag_octet_count 0) 0 (take flag_octet_count (drop 15 a))
-    → record {
-      own = own;
-      phase = get_or a 4 0;
-      transaction = record { source = source; sap = get_or a 11 0; ns = get_or a 12 0; pad = get_or a 13 0; blocks = get_or a 14 0 };
-      flags = flags;
-    } ≡ receiver_in a
-unfolding receiver_in
-receiver_is a own source flags h e f g =
-    let l : length (take flag_octet_count (drop 15 a)) ≡ flag_octet_count = length-take-le flag_octet_count (drop 15 a) (omega (arith, length-drop 15 a)) in
-    rw (e, f, g, put_all (replicate flag_octet_count 0) (take flag_octet_count (drop 15 a)) l)
 
 -- the store's octets in block 0 and in block 1
 abbrev pub part0 : List ℕ → List ℕ
@@ -75,10 +58,13 @@ module _ (a b : List ℕ) (size-a : length a ≡ stored_block) (size-b : length 
 
 -- ---- octets compared
 
+-- the octets of two lists are the same
+abbrev same_octets : List ℕ → List ℕ → ℕ → Bool
+same_octets a b n = every n (λ i. eqb (get_or a i 0) (get_or b i 0))
+
 -- what `==` tells of two lists of one length
 module _ (a b : List ℕ) where
-  pub same_lists : length b ≡ length a → pointwise eqb a b ≡ same_octets a b (length a)
-  unfolding same_octets
+  same_lists : length b ≡ length a → pointwise eqb a b ≡ same_octets a b (length a)
   same_lists size =
       same_test (pointwise eqb a b) (every (length a) (λ i. eqb (get_or a i 0) (get_or b i 0)))
       (λ e. every_true (length a) (λ i. eqb (get_or a i 0) (get_or b i 0)) (λ i l. eq-eqb (get_or a i 0) (get_or b i 0) (ap (λ (os : List ℕ). get_or os i 0) (same_text a b (sym e)))))
@@ -88,11 +74,12 @@ module _ (a b : List ℕ) where
 
 -- octets that are zero
 pub zeros-same : (os : List ℕ) (at n : ℕ) → at + n ≤ length os
-    → same_octets (take n (drop at os)) (replicate n 0) (length (take n (drop at os))) ≡ zeros_from os at n
-unfolding same_octets zeros_from
+    → pointwise eqb (take n (drop at os)) (replicate n 0) ≡ zeros_from os at n
+unfolding zeros_from
 zeros-same os at n room =
-    rw (length-take-le n (drop at os) (omega (arith, length-drop at os)))
-    (every_ext n (λ i. eqb (get_or (take n (drop at os)) i 0) (get_or (replicate n 0) i 0)) (λ i. eqb (get_or os (at + i) 0) 0)
+    let l : length (take n (drop at os)) ≡ n = length-take-le n (drop at os) (omega (arith, length-drop at os)) in
+    same_lists (take n (drop at os)) (replicate n 0) (length-replicate n 0 ∙ sym l)
+    ∙ rw l (every_ext n (λ i. eqb (get_or (take n (drop at os)) i 0) (get_or (replicate n 0) i 0)) (λ i. eqb (get_or os (at + i) 0) 0)
     (λ i h. ap₂ eqb (get_or-take n (drop at os) i 0 h ∙ get_or-drop at os i 0) (get_d_zeros n i)))
 
 -- an octet, or 0 in its place, compared with it
@@ -110,8 +97,9 @@ module _ (rx : Receiver) (store : List ℕ) (n : ℕ) where
       ap (λ (x : ℕ). eqb x (get_or store i 0)) (held_at (held rx) (λ i. get_or store i 0) 0 n i h ∙ rw (zero-add i))
       ∙ compared (held rx (i / block_size)) (get_or store i 0)
 
-  pub clear-same : (m : List ℕ) → m ≡ octets → same_octets m store (length m) ≡ clear rx store n
-  unfolding same_octets clear
-  clear-same m e =
-      rw (e, length-held (held rx) (λ i. get_or store i 0) 0 n)
-      (every_ext n (λ i. eqb (get_or octets i 0) (get_or store i 0)) (λ i. cond (held rx (i / block_size)) true (eqb (get_or store i 0) 0)) octet)
+  pub clear-same : (m : List ℕ) → m ≡ octets → length store ≡ n → pointwise eqb m store ≡ clear rx store n
+  unfolding clear
+  clear-same m e size =
+      let l : length octets ≡ n = length-held (held rx) (λ i. get_or store i 0) 0 n in
+      ap (λ (os : List ℕ). pointwise eqb os store) e ∙ same_lists octets store (size ∙ sym l)
+      ∙ rw l (every_ext n (λ i. eqb (get_or octets i 0) (get_or store i 0)) (λ i. cond (held rx (i / block_size)) true (eqb (get_or store i 0) 0)) octet)

@@ -11,7 +11,7 @@ use Rattle.stored.specs.Stored.{held_octets, saved, block0, block1, receiver_in,
 -- a receiver and a store as every run leaves them: what a receiver can be, sizes, and a good message check when complete
 pub record Savable (rx : Receiver) (store : List ℕ) : Type 0 where
   pub good : receiver_good rx ≡ true
-  pub flags : length rx.flags ≡ flag_octet_count
+  pub flags : length rx.flags.octets ≡ flag_octet_count
   pub room : length store ≡ store_size
   pub checked : rx.phase ≡ 2 → message_good (take (block_size * rx.transaction.blocks) store) ≡ true
 

@@ -2,26 +2,18 @@
 -- Assumes nothing.
 use Rattle.std.specs.Prelude.{Bool, true, cond, List, [], ◌∷◌, ℕ, ◌*◌, eqb, get_or, take}
 use Rattle.addresses.specs.declared.RadioAddress.{RadioAddress}
-use Rattle.foundation.specs.Order.{all, every, first_failed}
+use Rattle.foundation.specs.Order.{all, first_failed}
 use Rattle.checks.specs.Checks.{header_good, message_good}
 use Rattle.messages.specs.Messages.{block_size}
 use Rattle.receiver_state.specs.Receiver.{store_size, receiver_good}
 use Rattle.receiver_state.specs.declared.Receiver.{Receiver}
-use Rattle.stored.specs.Stored.{stored_block, zeros_at, zero_part, zeros_from, clear}
-
--- what a receiver and the sizes of its store and of a stored form must be
-unfoldable pub usable : Receiver → ℕ → ℕ → Bool
-usable rx store form = all (receiver_good rx ∷ eqb store store_size ∷ eqb form (2 * stored_block) ∷ [])
+use Rattle.stored.specs.Stored.{zeros_at, zero_part, zeros_from, clear}
 
 -- octets 0 and 1 of both blocks, and their stamps
 unfoldable pub marked : List ℕ → List ℕ → Bool
 marked a b =
     all (eqb (get_or a 0 0) 1 ∷ eqb (get_or a 1 0) 0 ∷ eqb (get_or b 0 0) 1 ∷ eqb (get_or b 1 0) 1 ∷ eqb (get_or a 2 0) (get_or b 2 0)
     ∷ eqb (get_or a 3 0) (get_or b 3 0) ∷ [])
-
--- the first n octets of two lists are the same
-unfoldable pub same_octets : List ℕ → List ℕ → ℕ → Bool
-same_octets a b n = every n (λ i. eqb (get_or a i 0) (get_or b i 0))
 
 -- a complete transaction has a good message check
 unfoldable pub message_checked : Receiver → List ℕ → Bool

@@ -70,7 +70,7 @@ stored_form own phase t flags octet s0 s1 =
 
 -- of a receiver and its store
 unfoldable pub saved : Receiver → List ℕ → ℕ → ℕ → List ℕ
-saved rx store s0 s1 = stored_form rx.own rx.phase rx.transaction rx.flags (λ i. get_or store i 0) s0 s1
+saved rx store s0 s1 = stored_form rx.own rx.phase rx.transaction rx.flags.octets (λ i. get_or store i 0) s0 s1
 
 -- 1 for a receiver that there can't be, a store or a lent stored form of another size
 unfoldable pub save_number : Receiver → List ℕ → List ℕ → ℕ
@@ -95,7 +95,7 @@ receiver_in a = record {
   own = address_at a 5;
   phase = get_or a 4 0;
   transaction = record { source = address_at a 8; sap = get_or a 11 0; ns = get_or a 12 0; pad = get_or a 13 0; blocks = get_or a 14 0 };
-  flags = take flag_octet_count (drop 15 a);
+  flags = record { octets = take flag_octet_count (drop 15 a) };
 }
 
 unfoldable pub store_in : List ℕ → List ℕ → List ℕ

@@ -1,37 +1,26 @@
 // The stored form of a receiver: saving it, and restoring it from any octets.
 #![tactic(auto)]
 
-ghost use Rattle.std.specs.Prelude.{◌≡◌, length, get_or};
+ghost use Rattle.std.specs.Prelude.{◌≡◌, get_or};
 ghost use Rattle.transactions.specs.Flags.{flagged};
 ghost use Rattle.receiver_state.specs.Receiver.{store_size};
 ghost use Rattle.stored.specs.Stored.{held_octets};
-ghost use Rattle.stored.specs.Parts.{usable as usable·receiver};
 
-use crate::saving::FORM;
 use messages::message::{BLOCK, MOST_BLOCKS};
-use receiver_state::{Receiver, STORE};
-use transactions::flags::FLAG_OCTETS;
+use receiver_state::STORE;
+use transactions::flags::Flags;
 
 pub mod restoring;
 pub mod saving;
 pub mod stamp;
 
-// Whether there can be such a receiver, and store and stored form have their sizes.
-#[tactic(auto, unfolding(crate::specs::Parts::usable, foundation::specs::Order::all))]
-fn usable(rx: Receiver, store: usize, form: usize) -> bool
-    ensures { result ≡ usable·receiver rx store form }
-{
-    receiver_state::is_good(rx) && store == STORE && form == FORM
-}
-
 // The store with zeros for the octets of blocks not held: a copy of whole blocks.
-fn held_store(flags: [u8; FLAG_OCTETS], store: &[u8]) -> [u8; STORE]
-    requires { length store.now ≡ store_size }
-    ensures { result ≡ held_octets (flagged flags) (λ i. get_or store.now i 0) 0 store_size }
+fn held_store(flags: Flags, store: &[u8; STORE]) -> [u8; STORE]
+    ensures { result ≡ held_octets (flagged flags.octets) (λ i. get_or store.now i 0) 0 store_size }
 {
     let mut held = [0u8; STORE];
     for n in 0..MOST_BLOCKS {
-        if transactions::flags::is_set(flags, n) {
+        if flags.is_set(n) {
             let at = BLOCK * n;
             let end = at + BLOCK;
             foundation::octets::put(&mut held, at, &store[at..end]);

@@ -45,12 +45,12 @@ fn check_at(to: &mut [u8], at: usize)
 
 // The first 23 octets of block 0.
 fn head(rx: Receiver, stamp: Stamp) -> [u8; 23]
-    ensures { result ≡ head0 rx.own rx.phase rx.transaction rx.flags stamp.high stamp.low }
+    ensures { result ≡ head0 rx.own rx.phase rx.transaction rx.flags.octets stamp.high stamp.low }
 {
     let t = rx.transaction;
     let own = rx.own.octets();
     let source = t.source.octets();
-    let f = rx.flags;
+    let f = rx.flags.octets;
     [
         1, 0, stamp.high, stamp.low, rx.phase, own[0], own[1], own[2], source[0], source[1],
         source[2], t.sap, t.ns, t.pad, t.blocks, f[0], f[1], f[2], f[3], f[4], f[5], f[6], f[7],
@@ -63,7 +63,10 @@ pub fn save(rx: Receiver, store: &[u8], stamp: Stamp, form: &mut [u8]) -> Result
         × (form.new ≡ after_save rx store.now stamp.high stamp.low form.old)
         × (Savable rx store.now → Restores rx store.now stamp.high stamp.low) }
 {
-    if !crate::usable(rx, store.len(), form.len()) {
+    let Some(store) = store.as_array::<STORE>() else {
+        return Err(Refusal::Size);
+    };
+    if !receiver_state::is_good(rx) || form.len() != FORM {
         return Err(Refusal::Size);
     }
     let held = crate::held_store(rx.flags, store);

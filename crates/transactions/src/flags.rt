@@ -1,8 +1,8 @@
 // Flags of blocks in octets: block n in octet n / 8 at weight 2^(n mod 8). A test of many blocks goes by words: word j has the 64 blocks from
 // block 64 j on, block 64 j + i at weight 2^i.
-ghost use Rattle.std.specs.Prelude.{◌≡◌, ◌<◌, true, cond, not, ltb};
+ghost use Rattle.std.specs.Prelude.{◌≡◌, ◌<◌, true, cond, not, ltb, replicate};
 ghost use Rattle.foundation.specs.Order.{every};
-ghost use Rattle.transactions.specs.Flags.{flag_count, flagged, with_flag};
+ghost use Rattle.transactions.specs.Flags.{flag_octet_count, flag_count, flagged, with_flag};
 ghost use Rattle.transactions.specs.Parts.{word_count, word_of, is_between, as_wanted};
 
 // How many octets of flags there are.
@@ -17,35 +17,10 @@ const WORDS: usize = FLAG_OCTETS / 8;
 // A word of ones.
 const ONES: u64 = 0xFFFF_FFFF_FFFF_FFFF;
 
-// Whether block n is flagged; past the flags none is.
-pub fn is_set(flags: [u8; FLAG_OCTETS], n: usize) -> bool
-    ensures { result ≡ flagged flags n }
-{
-    n < FLAGS && (flags[n / 8] >> (n % 8)) % 2 == 1
-}
-
-// The flags with that of block n; past the flags nothing changes.
-pub fn with(flags: [u8; FLAG_OCTETS], n: usize) -> [u8; FLAG_OCTETS]
-    ensures { result ≡ with_flag flags n }
-{
-    if FLAGS <= n || is_set(flags, n) {
-        return flags;
-    }
-    let mut next = flags;
-    next[n / 8] = flags[n / 8] + (1 << (n % 8));
-    next
-}
-
-// Word j of the flags.
-fn word(flags: [u8; FLAG_OCTETS], j: usize) -> u64
-    requires { j < word_count }
-    ensures { result ≡ word_of (flagged flags) j }
-{
-    let mut w: u64 = 0;
-    for k in 0..8 {
-        w += (flags[8 * j + k] as u64) << (8 * k);
-    }
-    w
+// The flags of held blocks.
+#[derive(Clone, Copy, Debug, PartialEq, Eq)]
+pub struct Flags {
+    pub octets: [u8; FLAG_OCTETS],
 }
 
 // Word j of the blocks below n.
@@ -78,39 +53,81 @@ fn due(blocks: u64, wanted: bool) -> u64
     if wanted { blocks } else { 0 }
 }
 
-// Whether every block from `from` on and below `to` is flagged where `wanted` is true, and none where it is false.
-// Blocks past the flags are not looked at.
-fn every_between(flags: [u8; FLAG_OCTETS], from: usize, to: usize, wanted: bool) -> bool
-    ensures { result ≡ every flag_count (as_wanted flags from to wanted) }
-{
-    for j in 0..WORDS {
-        let blocks = between(from, to, j);
-        let held = word(flags, j) & blocks;
-        let expected = due(blocks, wanted);
-        if held != expected {
-            return false;
+impl Flags {
+    // No block flagged.
+    pub fn none() -> Flags
+        ensures { result ≡ record { octets = replicate flag_octet_count 0 } }
+    {
+        Flags {
+            octets: [0u8; FLAG_OCTETS],
         }
     }
-    true
-}
 
-// Whether every block below n is flagged.
-pub fn all_below(flags: [u8; FLAG_OCTETS], n: usize) -> bool
-    ensures { result ≡ every n (flagged flags) }
-{
-    n <= FLAGS && every_between(flags, 0, n, true)
-}
+    // Whether block n is flagged; past the flags none is.
+    pub fn is_set(self, n: usize) -> bool
+        ensures { result ≡ flagged self.octets n }
+    {
+        n < FLAGS && (self.octets[n / 8] >> (n % 8)) % 2 == 1
+    }
 
-// Whether no block below n is flagged.
-pub fn none_below(flags: [u8; FLAG_OCTETS], n: usize) -> bool
-    ensures { result ≡ every n (λ i. not (flagged flags i)) }
-{
-    every_between(flags, 0, n, false)
-}
+    // These with the flag of block n; past the flags nothing changes.
+    pub fn with(self, n: usize) -> Flags
+        ensures { result ≡ record { octets = with_flag self.octets n } }
+    {
+        if FLAGS <= n || self.is_set(n) {
+            return self;
+        }
+        let mut next = self;
+        next.octets[n / 8] += 1 << (n % 8);
+        next
+    }
 
-// Whether no block from n on is flagged.
-pub fn none_from(flags: [u8; FLAG_OCTETS], n: usize) -> bool
-    ensures { result ≡ every flag_count (λ i. cond (ltb i n) true (not (flagged flags i))) }
-{
-    every_between(flags, n, FLAGS, false)
+    // Word j of the flags.
+    fn word(self, j: usize) -> u64
+        requires { j < word_count }
+        ensures { result ≡ word_of (flagged self.octets) j }
+    {
+        let mut w: u64 = 0;
+        for k in 0..8 {
+            w += (self.octets[8 * j + k] as u64) << (8 * k);
+        }
+        w
+    }
+
+    // Whether every block from `from` on and below `to` is flagged where `wanted` is true, and none where it is false.
+    // Blocks past the flags are not looked at.
+    fn every_between(self, from: usize, to: usize, wanted: bool) -> bool
+        ensures { result ≡ every flag_count (as_wanted self.octets from to wanted) }
+    {
+        for j in 0..WORDS {
+            let blocks = between(from, to, j);
+            let held = self.word(j) & blocks;
+            let expected = due(blocks, wanted);
+            if held != expected {
+                return false;
+            }
+        }
+        true
+    }
+
+    // Whether every block below n is flagged.
+    pub fn all_below(self, n: usize) -> bool
+        ensures { result ≡ every n (flagged self.octets) }
+    {
+        n <= FLAGS && self.every_between(0, n, true)
+    }
+
+    // Whether no block below n is flagged.
+    pub fn none_below(self, n: usize) -> bool
+        ensures { result ≡ every n (λ i. not (flagged self.octets i)) }
+    {
+        self.every_between(0, n, false)
+    }
+
+    // Whether no block from n on is flagged.
+    pub fn none_from(self, n: usize) -> bool
+        ensures { result ≡ every flag_count (λ i. cond (ltb i n) true (not (flagged self.octets i))) }
+    {
+        self.every_between(n, FLAGS, false)
+    }
 }

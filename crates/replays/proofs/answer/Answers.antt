@@ -17,7 +17,7 @@ returns-in-Ok c =
     let s = state_of a.rx a.store.now in
     let r = record_of a.kind a.octets.now in
     let e = c.in-Ok.ensures in
-    let eight : length a.rx.flags ≡ flag_octet_count = search (rules, c.well_formed) in
+    let eight : length a.rx.flags.octets ≡ flag_octet_count = search (rules, c.well_formed) in
     let told = store_told a.rx a.store.now r _ c.requires.1 refl _ _ e.1 e.2 a.text.now a.at 0 [] _ e.0 in
     taken_step a.rx a.store.now r _ c.requires.1 refl _ _ e.1 e.2 a.text.now a.at _ _ _ e.0
     (line_text_lem s r (omega (arith, c.requires.1)) (omega (arith, c.requires.1, c.record.auto.store, ap length told)) eight) c.put_line.ensures

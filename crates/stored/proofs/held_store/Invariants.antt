@@ -7,4 +7,4 @@ use Rattle.stored.proofs.HeldStore.{BlocksCopied}
 use Rattle.stored.proofs.held_store.Given as goal
 
 abbrev pub invariant-loop-n : goal.invariant-loop-n
-invariant-loop-n l = (l.n ≤ most_blocks) × BlocksCopied (flagged l.flags) l.store l.n l.held
+invariant-loop-n l = (l.n ≤ most_blocks) × BlocksCopied (flagged l.flags.octets) l.store l.n l.held

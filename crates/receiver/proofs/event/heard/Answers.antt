@@ -19,4 +19,4 @@ returns-then-not-full c =
 pub returns : goal.returns
 returns c =
     let a = c.args in
-    by_opened a.rx a.t a.full _ c.is_repeat.ensures c.if-is_repeat.false c.if-not-full.false
+    rw c.none.ensures (by_opened a.rx a.t a.full _ c.is_repeat.ensures c.if-is_repeat.false c.if-not-full.false)

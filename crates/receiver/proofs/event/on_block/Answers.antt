@@ -41,5 +41,5 @@ returns c =
     let a = c.args in
     let e = left_new a.rx a.store.now a.octets.now _ (sym c.block_taken.ensures ∙ c.in-Ok.is) (sym c.is_set.ensures ∙ c.if-is_set.false) in
     let put = c.put_block.ensures in
-    let step = rw (c.with-flags.ensures, put) at c.taken_block.ensures in
+    let step = rw (c.with.ensures, put) at c.taken_block.ensures in
     block_promise a.rx a.store.now a.octets.now _ _ (step ∙ ap (λ (l : BlockLeft). l.step) e) (put ∙ ap (λ (l : BlockLeft). l.store) e)

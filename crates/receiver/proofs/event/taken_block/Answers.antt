@@ -18,8 +18,9 @@ slice_bounds-message_good-end c =
 pub returns-then-not-message_good : goal.returns-then-not-message_good
 returns-then-not-message_good c =
     let a = c.args in
-    taken-bad a.rx a.store.now (sym c.all_below.ensures ∙ c.if-not-all_below.false)
-    (sym c.message_good.ensures ∙ c.if-not-message_good.true)
+    rw c.none.ensures
+    (taken-bad a.rx a.store.now (sym c.all_below.ensures ∙ c.if-not-all_below.false)
+    (sym c.message_good.ensures ∙ c.if-not-message_good.true))
 
 pub overflow_sub-result : goal.overflow_sub-result
 overflow_sub-result c = omega (arith, good-blocks c.args.rx.transaction c.requires.0)

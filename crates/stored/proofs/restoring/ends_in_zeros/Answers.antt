@@ -7,4 +7,4 @@ use Rattle.stored.proofs.StoreReading.{zeros-same}
 use Rattle.stored.proofs.restoring.ends_in_zeros.Goals as goal
 
 pub returns : goal.returns
-returns c = c.is_same.ensures ∙ zeros-same c.args.b.now zeros_at zero_part (omega arith)
+returns c = c.eq.ensures ∙ zeros-same c.args.b.now zeros_at zero_part (omega arith)

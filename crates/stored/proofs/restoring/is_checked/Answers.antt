@@ -14,8 +14,10 @@ returns-then-rx-ne2 c = rw (ne_eqb _ 2 c.if-rx-ne2.true)
 
 pub slice_bounds-message_good-end : goal.slice_bounds-message_good-end
 slice_bounds-message_good-end c =
-    let st = c in
-    sym (length-take-le _ _ (omega (arith, st.requires.1, (fits st.args.rx st.requires.0).1)))
+    sym (length-take-le _ _ (omega (arith, c.told-store, (fits c.args.rx c.requires).1)))
+
+pub shared_ref_as_front-message_good : goal.shared_ref_as_front-message_good
+shared_ref_as_front-message_good c = omega (arith, (fits c.args.rx c.requires).1)
 
 pub returns-else-rx-ne2 : goal.returns-else-rx-ne2
 unfolding message_checked

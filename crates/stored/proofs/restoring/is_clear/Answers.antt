@@ -7,4 +7,4 @@ use Rattle.stored.proofs.restoring.is_clear.Goals as goal
 
 pub returns : goal.returns
 returns c =
-    c.is_same.ensures ∙ clear-same c.args.rx c.args.store.now store_size _ c.held_store.ensures
+    c.eq.ensures ∙ clear-same c.args.rx c.args.store.now store_size _ c.held_store.ensures c.told-store

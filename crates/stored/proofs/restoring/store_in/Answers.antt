@@ -13,6 +13,5 @@ use Rattle.stored.proofs.restoring.store_in.Goals as goal
 pub returns : goal.returns
 returns c =
     let x = c.args in
-    let p = c.requires in
-    store_is x.a.now x.b.now p.0 p.1 (replicate store_size 0) _ (length-replicate {A = ℕ} store_size 0)
+    store_is x.a.now x.b.now c.told-a c.told-b (replicate store_size 0) _ (length-replicate {A = ℕ} store_size 0)
     (c.put-2.ensures ∙ ap (λ (l : List ℕ). put l first_part (part1 x.b.now)) c.put.ensures)

@@ -8,4 +8,4 @@ use Rattle.transactions.specs.Flags.{flag_octet_count, flagged, weights}
 use Rattle.transactions.proofs.response.sack_flags.Given as goal
 
 abbrev pub invariant-loop-j : goal.invariant-loop-j
-invariant-loop-j l = Filled flag_octet_count (λ j. weights (λ n. cond (flagged l.flags n) true (leb l.blocks n)) (8 * j) 8) l.j l.octets
+invariant-loop-j l = Filled flag_octet_count (λ j. weights (λ n. cond (flagged l.flags.octets n) true (leb l.blocks n)) (8 * j) 8) l.j l.octets

@@ -23,7 +23,7 @@ pub overflow_add-octet : goal.overflow_add-octet
 overflow_add-octet c =
     let a = c.args in
     let l = c.loop-k in
-    record { fits = weights-room (is_one a.flags a.blocks) (8 * a.j) l.k l.octet (omega arith) l.invariant }
+    record { fits = weights-room (is_one a.flags.octets a.blocks) (8 * a.j) l.k l.octet (omega arith) l.invariant }
 
 pub loop-k-preserved : goal.loop-k-preserved
 loop-k-preserved c =
@@ -31,6 +31,6 @@ loop-k-preserved c =
     let l = c.loop-k in
     let one = c.is_one.ensures in
     elim c.if-is_one.branch [
-      | then-is_one w ↦ w.octet-is ∙ weights-held (is_one a.flags a.blocks) (8 * a.j) l.k l.octet (omega arith) l.invariant (sym one ∙ w.if-is_one.true)
-      | else-is_one w ↦ w.octet-is ∙ weights_other (is_one a.flags a.blocks) (8 * a.j) l.k l.octet l.invariant (sym one ∙ w.if-is_one.false)
+      | then-is_one w ↦ w.octet-is ∙ weights-held (is_one a.flags.octets a.blocks) (8 * a.j) l.k l.octet (omega arith) l.invariant (sym one ∙ w.if-is_one.true)
+      | else-is_one w ↦ w.octet-is ∙ weights_other (is_one a.flags.octets a.blocks) (8 * a.j) l.k l.octet l.invariant (sym one ∙ w.if-is_one.false)
     ]

@@ -13,4 +13,4 @@ abbrev pub is_one : List ℕ → ℕ → ℕ → Bool
 is_one flags blocks n = cond (flagged flags n) true (leb blocks n)
 
 abbrev pub invariant-loop-k : goal.invariant-loop-k
-invariant-loop-k l = l.octet ≡ weights (is_one l.flags l.blocks) (8 * l.j) l.k
+invariant-loop-k l = l.octet ≡ weights (is_one l.flags.octets l.blocks) (8 * l.j) l.k

@@ -1,4 +1,4 @@
--- `transactions::flags::every_between` meets its contract.
+-- `transactions::flags::Flags::every_between` meets its contract.
 -- Assumes nothing.
 -- every block of word j is as wanted
 use mathlib.Core.Path.{◌≡◌}
@@ -7,10 +7,10 @@ use mathlib.Core.List.{List}
 use Prim.Native.Nat.{ℕ, ◌+◌, ◌*◌}
 use Rattle.foundation.specs.Order.{every}
 use Rattle.transactions.specs.Parts.{as_wanted}
-use Rattle.transactions.proofs.flags.every_between.Given as goal
+use Rattle.transactions.proofs.flags.Flags.every_between.Given as goal
 
 abbrev pub word-wanted : List ℕ → ℕ → ℕ → Bool → ℕ → Bool
 word-wanted flags from to wanted j = every 64 (λ i. as_wanted flags from to wanted (64 * j + i))
 
 abbrev pub invariant-loop-j : goal.invariant-loop-j
-invariant-loop-j l = every l.j (word-wanted l.flags l.from l.to l.wanted) ≡ true
+invariant-loop-j l = every l.j (word-wanted l.self.octets l.from l.to l.wanted) ≡ true
