@@ -1,17 +1,16 @@
 -- The lines as they are written, part behind part.
 -- Assumes nothing.
-use mathlib.Core.Path.{◌≡◌, refl, sym, ap, subst, ◌∙◌}
+use mathlib.Core.Path.{◌≡◌, refl, sym, ap, subst}
 use mathlib.Core.List.{List, [], ◌∷◌}
 use Prim.Native.Nat.{ℕ, ◌+◌, ◌^◌, ◌≤◌, ◌<◌}
 use native.Mathlib.Omega.{arith}
 use lib.ListN.{length}
 use Rattle.foundation.proofs.Copying.{length-put}
-use Rattle.foundation.specs.Octets.{put}
-use Rattle.texts.specs.Texts.{decimal, octets_text, blank, line_feed, parts, end_at}
+use Rattle.texts.specs.Texts.{decimal, octets_text, blank, line_feed, parts}
 use Rattle.texts.specs.Parts.{HasRoom, Wrote, AtMost}
 use Rattle.texts.specs.declared.Writer.{Writer}
 use Rattle.texts.proofs.Decimals.{short}
-use Rattle.texts.proofs.Writing.{wrote_none, Chain, more, chained, as_writes, end_inside, put-none, length-parts, length-octets}
+use Rattle.texts.proofs.Writing.{wrote_none, Chain, more, chained, as_writes, length-parts, length-octets}
 use Rattle.transactions.specs.declared.header.Transaction.{Transaction}
 use Rattle.counting.specs.declared.Counts.{Counts}
 use Rattle.transactions.specs.Answers.{number_of}
@@ -22,8 +21,7 @@ use Rattle.reception.specs.Reception as reception
 use Rattle.counting.specs.Counts.{answer_number}
 use Rattle.captures.specs.declared.Listing.{Listing}
 use Rattle.captures.specs.declared.Listing.TheVariants.{Numbers, Deliveries}
-use Rattle.captures.specs.Lines.{number_line, end_line, source_part, size_part, message_line, bad_line, delivery_line, closing, line_room}
-use Rattle.captures.specs.Parts.{listed_line}
+use Rattle.captures.specs.Lines.{number_line, end_line, source_part, size_part, message_line, bad_line, closing}
 
 -- a number of 64 bits has at most 20 digits
 long-number : (n : ℕ) → n < 2 ^ 64 → length (decimal n) ≤ 20
@@ -124,45 +122,5 @@ number-said Bad store = refl
 number-said (Message n) store = refl
 
 -- no line
-pub no_line : (k : ℕ) (w : Writer) → AtMost k [] w w
-no_line k w = record { wrote = wrote_none w; most = omega arith }
-
--- a line of an answer that is another, and of a listing that is another
-module _ (i : ℕ) (t : Transaction) (store : List ℕ) (w w' : Writer) where
-  pub answer-line : (a b : Answer) → a ≡ b → AtMost 1302 (delivery_line i t (said b store)) w w' → AtMost 1302 (delivery_line i t (said a store)) w w'
-  answer-line a b e p = subst (λ (x : Answer). AtMost 1302 (delivery_line i t (said x store)) w w') (sym e) p
-
-  pub number-listed : (l : Listing) (a : Answer) (n : ℕ) → l ≡ Numbers → n ≡ answer_number (Confirmed a) → AtMost 25 (number_line i n) w w'
-      → AtMost (line_room l) (listed_line l i (record { said = said a store; transaction = t })) w w'
-  unfolding line_room listed_line
-  number-listed l a n e f p =
-      subst (λ (x : Listing). AtMost (line_room x) (listed_line x i (record { said = said a store; transaction = t })) w w') (sym e)
-      (subst (λ (k : ℕ). AtMost 25 (number_line i k) w w') (f ∙ number-said a store) p)
-
-  pub delivery_listed : (l : Listing) (a : Answer) → l ≡ Deliveries → AtMost 1302 (delivery_line i t (said a store)) w w'
-      → AtMost (line_room l) (listed_line l i (record { said = said a store; transaction = t })) w w'
-  unfolding line_room listed_line
-  delivery_listed l a e p =
-      subst (λ (x : Listing). AtMost (line_room x) (listed_line x i (record { said = said a store; transaction = t })) w w') (sym e) p
-
--- the last line, of each listing
-module _ (l : Listing) (c : Counts) (d : List ℕ) where
-  abbrev Closed : Listing → ℕ → List ℕ → Type 0
-  Closed x r m = (r ≡ end_at d 0 (closing x c)) × (m ≡ put d 0 (closing x c))
-
-  pub numbers_closed : (r : ℕ) (m : List ℕ) → l ≡ Numbers → (r ≡ end_at d 0 (end_line c)) × (m ≡ put d 0 (end_line c)) → Closed l r m
-  unfolding closing
-  numbers_closed r m e w = subst (λ (x : Listing). Closed x r m) (sym e) w
-
-  pub deliveries_closed : l ≡ Deliveries → Closed l 0 d
-  unfolding closing
-  deliveries_closed e = subst (λ (x : Listing). Closed x 0 d) (sym e) (end_inside d 0 [] (omega arith), put-none d 0)
-
--- the room of a line, of each listing
-pub numbers-room : (l : Listing) (w : Writer) → l ≡ Numbers → HasRoom (line_room l) w → HasRoom 25 w
-unfolding line_room
-numbers-room l w e h = subst (λ (x : Listing). HasRoom (line_room x) w) e h
-
-pub deliveries_room : (l : Listing) (w : Writer) → l ≡ Deliveries → HasRoom (line_room l) w → HasRoom 1302 w
-unfolding line_room
-deliveries_room l w e h = subst (λ (x : Listing). HasRoom (line_room x) w) e h
+pub no_line : (k : ℕ) (os : List ℕ) (w : Writer) → os ≡ [] → AtMost k os w w
+no_line k os w e = subst (λ (x : List ℕ). AtMost k x w w) (sym e) (record { wrote = wrote_none w; most = omega arith })

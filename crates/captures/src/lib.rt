@@ -113,6 +113,7 @@ fn put_bad(out: &mut Writer, index: u64, t: Transaction)
 }
 
 // The line of an answer: number or delivery.
+#[tactic(auto, unfolding(crate::specs::Lines::line_room, crate::specs::Parts::listed_line))]
 fn put_line(
     listing: Listing,
     out: &mut Writer,
@@ -131,6 +132,7 @@ fn put_line(
 }
 
 // The line of an answer that hands a message on, or finds it bad; a message stands in the store.
+#[tactic(auto, unfolding(crate::specs::Lines::delivery_line, receiver::specs::Events::said))]
 fn put_delivery(
     out: &mut Writer,
     index: u64,
@@ -142,15 +144,15 @@ fn put_delivery(
     ensures { AtMost 1302 (delivery_line index t (said (told a) store.now)) out.old out.new }
 {
     match a {
-        Err(_) => {}
-        Ok(Answer::Opened) => {}
-        Ok(Answer::Repeat) => {}
-        Ok(Answer::Stored) => {}
-        Ok(Answer::Bad) => put_bad(out, index, t),
         Ok(Answer::Message(n)) => {
             let end = foundation::octets::shorter(n, store.len());
             put_message(out, index, t, &store[..end]);
         }
+        Ok(Answer::Bad) => put_bad(out, index, t),
+        Ok(Answer::Opened) => {}
+        Ok(Answer::Repeat) => {}
+        Ok(Answer::Stored) => {}
+        Err(_) => {}
     }
 }
 
@@ -182,6 +184,7 @@ fn close_numbers(c: Counts, text: &mut [u8]) -> usize
 }
 
 // The last line of a listing, if it has one, at the start of the text where it has room.
+#[tactic(auto, unfolding(crate::specs::Lines::closing))]
 pub fn close(listing: Listing, c: Counts, text: &mut [u8]) -> usize
     ensures { (result ≡ end_at text.old 0 (closing listing c)) × (text.new ≡ put text.old 0 (closing listing c)) }
 {
@@ -259,6 +262,7 @@ fn count(listing: Listing, size: usize, last: bool, room: usize) -> usize
 }
 
 // The most octets of a line.
+#[tactic(auto, unfolding(crate::specs::Lines::line_room))]
 fn line_room(listing: Listing) -> usize
     ensures { result ≡ line_room listing }
 {

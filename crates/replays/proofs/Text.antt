@@ -85,12 +85,6 @@ module _ (w w' : Writer) (room : HasRoom report_room w) where
     unfolding code_text
     restored-written c = parts-written c (omega (arith, length-octets os))
 
--- what is written for a refusal, by the contents of its line
-pub refusal_contents : (w w' : Writer) (os : List ℕ) (n : ℕ) → n ≡ get_or os 0 0 → AtMost report_room (code_text 0 (n ∷ [])) w w'
-    → AtMost report_room (code_text 0 os) w w'
-unfolding code_text
-refusal_contents w w' os n e p = subst (λ (j : ℕ). AtMost report_room (code_text 0 (j ∷ [])) w w') e p
-
 -- the text is by the code of a number, whatever the number
 pub text_by_code : (n : ℕ) (os : List ℕ) → code_text (code_number (code_at n)) os ≡ code_text n os
 unfolding code_text code_number code_at

@@ -97,6 +97,7 @@ fn put_restored(out: &mut Writer, form: &[u8])
 }
 
 // The text of a line by its code and contents.
+#[tactic(auto, unfolding(logs::specs::Numbers::code_number, crate::specs::Parts::code_text, crate::specs::Text::line_text))]
 fn put_contents(out: &mut Writer, code: Code, contents: &[u8])
     requires { HasRoom report_room out.old × (length contents.now ≤ 2 * stored_block) }
     ensures { AtMost report_room (code_text (code_number code) contents.now) out.old out.new }
