@@ -1,7 +1,7 @@
 // Radio addresses of 24 bits and repeater numbers of 32: two types, so that one is never taken for the other.
 #![tactic(auto)]
 
-ghost use Rattle.std.specs.Prelude.{◌≡◌, ◌+◌, ◌*◌, ◌^◌, ltb};
+ghost use Rattle.std.specs.Prelude.{◌≡◌, ◌^◌, ltb};
 ghost use Rattle.addresses.specs.Octets.{three_octets, four_octets, address_at, number_at};
 
 use foundation::octets;
@@ -10,51 +10,53 @@ use foundation::octets;
 #[derive(Clone, Copy, Debug, PartialEq, Eq)]
 pub struct RadioAddress(pub u32);
 
+impl RadioAddress {
+    // Whether an address has 24 bits.
+    pub fn fits(self) -> bool
+        ensures { result ≡ ltb self.0 (2 ^ 24) }
+    {
+        self.0 < 0x100_0000
+    }
+
+    // The three octets of an address, most significant first.
+    pub fn octets(self) -> [u8; 3]
+        ensures { result ≡ three_octets self.0 }
+    {
+        let [_, high, middle, low] = self.0.to_be_bytes();
+        [high, middle, low]
+    }
+}
+
+// The address of three octets, most significant first.
+impl From<[u8; 3]> for RadioAddress {
+    ghost from_gives = { λ octets a. a ≡ address_at octets 0 };
+
+    fn from(octets: [u8; 3]) -> RadioAddress {
+        let [a, b, c] = octets;
+        RadioAddress(u32::from_be_bytes([0, a, b, c]))
+    }
+}
+
 // A repeater number, of 32 bits.
 #[derive(Clone, Copy, Debug, PartialEq, Eq)]
 pub struct RepeaterNumber(pub u32);
 
-// Whether an address has 24 bits.
-pub fn fits(a: RadioAddress) -> bool
-    ensures { result ≡ ltb a.0 (2 ^ 24) }
-{
-    a.0 < 0x100_0000
-}
-
-// The address of three octets, most significant first.
-pub fn radio_address(a: u8, b: u8, c: u8) -> RadioAddress
-    ensures { result.0 ≡ 65536 * a + 256 * b + c }
-{
-    RadioAddress(u32::from_be_bytes([0, a, b, c]))
-}
-
-// The three octets of an address, most significant first.
-pub fn radio_octets(a: RadioAddress) -> [u8; 3]
-    ensures { result ≡ three_octets a.0 }
-{
-    let [_, high, middle, low] = a.0.to_be_bytes();
-    [high, middle, low]
-}
-
-// The number of four octets, most significant first.
-pub fn number_of(a: u8, b: u8, c: u8, d: u8) -> u32
-    ensures { result ≡ 16777216 * a + 65536 * b + 256 * c + d }
-{
-    u32::from_be_bytes([a, b, c, d])
+impl RepeaterNumber {
+    // The four octets of a number, most significant first.
+    pub fn octets(self) -> [u8; 4]
+        ensures { result ≡ four_octets self.0 }
+    {
+        self.0.to_be_bytes()
+    }
 }
 
 // The repeater number of four octets, most significant first.
-pub fn repeater_number(a: u8, b: u8, c: u8, d: u8) -> RepeaterNumber
-    ensures { result.0 ≡ 16777216 * a + 65536 * b + 256 * c + d }
-{
-    RepeaterNumber(number_of(a, b, c, d))
-}
+impl From<[u8; 4]> for RepeaterNumber {
+    ghost from_gives = { λ octets n. n.0 ≡ number_at octets 0 };
 
-// The four octets of a number, most significant first.
-pub fn four_octets(n: u32) -> [u8; 4]
-    ensures { result ≡ four_octets n }
-{
-    n.to_be_bytes()
+    fn from(octets: [u8; 4]) -> RepeaterNumber {
+        RepeaterNumber(u32::from_be_bytes(octets))
+    }
 }
 
 // ---- at a place of a slice: octets past the end are 0
@@ -64,7 +66,7 @@ pub fn address_at(octets: &[u8], at: usize) -> RadioAddress
     ensures { result ≡ address_at octets.now at }
 {
     let o = octets::rest(octets, at);
-    radio_address(octets::at(o, 0), octets::at(o, 1), octets::at(o, 2))
+    RadioAddress::from([octets::at(o, 0), octets::at(o, 1), octets::at(o, 2)])
 }
 
 // The number in four octets from a place on.
@@ -72,10 +74,10 @@ pub fn number_at(octets: &[u8], at: usize) -> u32
     ensures { result ≡ number_at octets.now at }
 {
     let o = octets::rest(octets, at);
-    number_of(
+    u32::from_be_bytes([
         octets::at(o, 0),
         octets::at(o, 1),
         octets::at(o, 2),
         octets::at(o, 3),
-    )
+    ])
 }

@@ -36,7 +36,7 @@ pub enum Sync {
     Mobile,
 }
 
-// What is read from a burst.
+// What is read from a burst. The data type stays a number: it reads back as it was written.
 #[derive(Clone, Copy, Debug, PartialEq, Eq)]
 pub struct Burst {
     pub colour: u8,
@@ -134,7 +134,7 @@ fn sync_bits(sync: Sync) -> u64
     }
 }
 
-// The low eight bits of a word.
+// The low eight bits of a word: a cast may lose none, so that the cast alone would not do in its four places.
 fn low(x: u64) -> u8
     ensures { result ≡ x % 256 }
 {
@@ -170,7 +170,7 @@ fn burst_octets(f: &[u8], slot: u64, sync: u64) -> [u8; 33]
     b
 }
 
-// The octets of a burst for a colour code and a data type of four bits each.
+// The octets of a burst for a colour code and a data type of four bits each; a number, as write has it.
 fn written(colour: u8, datatype: u8, info: [u8; 12], sync: Sync) -> [u8; 33]
     requires { (colour < 16) × (datatype < 16) }
     ensures { result ≡ written_burst colour datatype info sync }
@@ -180,7 +180,8 @@ fn written(colour: u8, datatype: u8, info: [u8; 12], sync: Sync) -> [u8; 33]
     burst_octets(&f, slot, sync_bits(sync))
 }
 
-// Writes a burst. With wrong bits that the codes put right it comes back.
+// Writes a burst. With wrong bits that the codes put right it comes back. The data type stays a number: any is taken, and refused if it is
+// neither 6 nor 7.
 pub fn write(colour: u8, datatype: u8, info: [u8; 12], sync: Sync) -> Result<[u8; 33], Refusal>
     ensures gives { result ≡ burst_octets_given (write_burst colour datatype info sync) }
     ensures comes_back { IfOk result (λ octets. BurstComesBack colour datatype info octets) }

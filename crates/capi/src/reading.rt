@@ -61,8 +61,8 @@ pub extern "C" fn kirruskabe_read_response(header: &[u8], block: &[u8], out: &mu
         Ok(fields) => fields,
         Err(refusal) => return refuse(out, 18, refusal),
     };
-    let to = addresses::radio_octets(a.destination);
-    let from = addresses::radio_octets(a.source);
+    let to = a.destination.octets();
+    let from = a.source.octets();
     let mut head = [a.class, a.kind, a.status, a.sap, 0, 0, 0, 0, 0, 0];
     foundation::octets::put(&mut head, 4, &to);
     foundation::octets::put(&mut head, 7, &from);

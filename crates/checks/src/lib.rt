@@ -27,14 +27,14 @@ fn front(octets: &[u8]) -> u64
 }
 
 // The remainder of the octets by the fourth power of the header's generator. Zeros in front add nothing, so that the first word may be
-// short.
+// short. By steps of eight: `as_rchunks` and `chunks_exact` were tried, and 510 octets took a twelfth longer.
 fn header_words(octets: &[u8]) -> u64
     ensures { result ≡ remainder 64 header_fourth (octet_bit octets.now) (8 * length octets.now) }
 {
-    let (first, words) = octets.as_rchunks::<8>();
-    let mut w = front(first);
-    for word in words {
-        w = folds::header::take_word(w, u64::from_be_bytes(*word));
+    let first = octets.len() % 8;
+    let mut w = front(&octets[..first]);
+    for i in (first..octets.len()).step_by(8) {
+        w = folds::header::take_word(w, foundation::octets::whole_word(octets, i));
     }
     w
 }

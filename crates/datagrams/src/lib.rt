@@ -11,7 +11,7 @@ use bursts::burst::{Kind, Sync};
 use foundation::refusal::Refusal;
 
 // What stands before the burst, but for the data type.
-#[derive(Clone, Copy)]
+#[derive(Clone, Copy, Debug, PartialEq, Eq)]
 pub struct Labels {
     pub sequence: u8,
     pub source: RadioAddress,
@@ -22,8 +22,8 @@ pub struct Labels {
     pub stream: u32,
 }
 
-// What is read.
-#[derive(Clone, Copy)]
+// What is read. The data type stays a number, as in a burst.
+#[derive(Clone, Copy, Debug, PartialEq, Eq)]
 pub struct Datagram {
     pub labels: Labels,
     pub colour: u8,
@@ -97,22 +97,19 @@ pub fn read(datagram: &[u8]) -> Result<Datagram, Refusal>
 fn labels_fit(labels: Labels) -> bool
     ensures { result ≡ labels_fit labels }
 {
-    addresses::fits(labels.source)
-        && addresses::fits(labels.target)
-        && labels.timeslot < 2
-        && labels.call < 2
+    labels.source.fits() && labels.target.fits() && labels.timeslot < 2 && labels.call < 2
 }
 
-// The 20 octets before the burst.
+// The 20 octets before the burst. The data type stays a number, four bits of octet 15.
 fn label_octets(labels: Labels, datatype: u8) -> [u8; 20]
     requires { (labels_fit labels ≡ true) × (datatype < 16) }
     ensures { result ≡ label_octets labels datatype }
 {
     let p = b"DMRD";
-    let s = addresses::radio_octets(labels.source);
-    let t = addresses::radio_octets(labels.target);
-    let n = addresses::four_octets(labels.repeater.0);
-    let m = addresses::four_octets(labels.stream);
+    let s = labels.source.octets();
+    let t = labels.target.octets();
+    let n = labels.repeater.octets();
+    let m = labels.stream.to_be_bytes();
     let octet = 128 * labels.timeslot + 64 * labels.call + 32 + datatype;
     [
         p[0],
@@ -149,7 +146,8 @@ fn joined(labels: &[u8], burst: &[u8]) -> [u8; 53]
     d
 }
 
-// Writes a datagram with its burst. With wrong bits in the burst that the codes put right it comes back.
+// Writes a datagram with its burst. With wrong bits in the burst that the codes put right it comes back. The data type stays a number: any
+// is taken, and refused as the burst's is.
 pub fn write(
     labels: Labels,
     colour: u8,

@@ -49,32 +49,14 @@ pub fn fresh_form(own: RadioAddress, s0: u8, s1: u8, form: &mut [u8]) -> Result<
 // ---- one event
 
 // What is given for a number of the table: a line in octets holds the number of its refusal.
-#[tactic(auto, unfolding(foundation::specs::Refusals::outcome, foundation::specs::Refusals::refusal))]
+#[tactic(auto, unfolding(foundation::specs::Refusals::outcome, foundation::specs::Refusals::refusal, foundation::specs::Refusals::numbered))]
 fn given(number: u8) -> Result<(), Refusal>
     ensures { result ≡ outcome number tt }
 {
-    match number {
-        0 => Ok(()),
-        1 => Err(Refusal::Size),
-        2 => Err(Refusal::Prefix),
-        3 => Err(Refusal::FrameType),
-        4 => Err(Refusal::SlotType),
-        5 => Err(Refusal::DataType),
-        6 => Err(Refusal::Uncorrectable),
-        7 => Err(Refusal::Reserved),
-        8 => Err(Refusal::HeaderCheck),
-        9 => Err(Refusal::Format),
-        10 => Err(Refusal::NotForUs),
-        11 => Err(Refusal::BlockCount),
-        12 => Err(Refusal::NoTransaction),
-        13 => Err(Refusal::BlockCheck),
-        14 => Err(Refusal::Serial),
-        15 => Err(Refusal::OtherOctets),
-        16 => Err(Refusal::Unwritable),
-        17 => Err(Refusal::StoredCheck),
-        18 => Err(Refusal::StoredLayout),
-        _ => Err(Refusal::OtherAddress),
+    if number == 0 {
+        return Ok(());
     }
+    Err(Refusal::try_from(number).unwrap_or(Refusal::OtherAddress))
 }
 
 // The receiver of a stored form, over a store of zeros that gets its octets; refused for a form that is none.

@@ -1,6 +1,7 @@
 -- The numbers of document 01's table, and what is given in their place: an answer where the number is 0, else the refusal.
 -- Assumes nothing.
-use Rattle.std.specs.Prelude.{Result, Ok, Err, List, [], ◌∷◌, ℕ, zero, suc, ◌-◌, get_or}
+use Rattle.std.specs.Prelude.{Result, Ok, Err, List, [], ◌∷◌, ℕ, zero, suc, ◌-◌, leb, ◌&&◌, if◌then◌else◌, get_or}
+use Rattle.foundation.specs.declared.refusal.NotInTable.{NotInTable}
 use Rattle.foundation.specs.declared.refusal.Refusal.{Refusal}
 use Rattle.foundation.specs.declared.refusal.Refusal.TheVariants.{Size, Prefix, FrameType, SlotType, DataType, Uncorrectable, Reserved, HeaderCheck, Format, NotForUs, BlockCount, NoTransaction, BlockCheck, Serial, OtherOctets, Unwritable, StoredCheck, StoredLayout, OtherAddress}
 
@@ -35,6 +36,10 @@ table =
 
 unfoldable pub refusal : ℕ → Refusal
 refusal n = get_or table (n - 1) OtherAddress
+
+-- the refusal of a number, where the table has the number
+unfoldable pub numbered : ℕ → Result Refusal NotInTable
+numbered n = if leb 1 n && leb n 19 then Ok (refusal n) else Err (record { 0 = n })
 
 -- what is given for a number and an answer
 unfoldable pub outcome : {A : Type 0} → ℕ → A → Result A Refusal

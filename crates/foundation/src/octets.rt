@@ -17,7 +17,7 @@ pub fn rest(octets: &[u8], i: usize) -> &[u8]
     octets.get(i..).unwrap_or(&[])
 }
 
-// The eight octets of a number, the highest first.
+// The eight octets of a number, the highest first: std's, said in the terms of bits in which the codes speak, once for all that call it.
 pub fn octets_of(x: u64) -> [u8; 8]
     ensures { result ≡ tabulate 8 (λ j. x / 2 ^ (56 - 8 * j) % 2 ^ 8) }
 {
@@ -76,7 +76,7 @@ pub fn put(to: &mut [u8], at: usize, octets: &[u8])
     }
 }
 
-// The shorter of two lengths.
+// The shorter of two lengths. std says of `min` that it goes by the order of any type; this says it of numbers, once for all that call it.
 pub fn shorter(a: usize, b: usize) -> usize
     ensures { result ≡ min a b }
 {

@@ -1,6 +1,6 @@
 // The refusals of document 01's table.
 ghost use Rattle.std.specs.Prelude.{◌≡◌};
-ghost use Rattle.foundation.specs.Refusals.{refusal_number};
+ghost use Rattle.foundation.specs.Refusals.{refusal_number, numbered};
 
 use std::error::Error;
 use std::fmt;
@@ -65,3 +65,47 @@ impl fmt::Display for Refusal {
 }
 
 impl Error for Refusal {}
+
+// A number that the table has not.
+#[derive(Clone, Copy, Debug, PartialEq, Eq)]
+pub struct NotInTable(pub u8);
+
+impl fmt::Display for NotInTable {
+    fn fmt<W: fmt::Write>(&self, f: &mut fmt::Formatter<W>) -> fmt::Result {
+        write!(f, "the table has no number {}", self.0)
+    }
+}
+
+impl Error for NotInTable {}
+
+impl TryFrom<u8> for Refusal {
+    type Error = NotInTable;
+
+    ghost try_from_gives = { λ number r. r ≡ numbered number };
+
+    #[tactic(auto, unfolding(crate::specs::Refusals::numbered, crate::specs::Refusals::refusal))]
+    fn try_from(number: u8) -> Result<Refusal, NotInTable> {
+        Ok(match number {
+            1 => Refusal::Size,
+            2 => Refusal::Prefix,
+            3 => Refusal::FrameType,
+            4 => Refusal::SlotType,
+            5 => Refusal::DataType,
+            6 => Refusal::Uncorrectable,
+            7 => Refusal::Reserved,
+            8 => Refusal::HeaderCheck,
+            9 => Refusal::Format,
+            10 => Refusal::NotForUs,
+            11 => Refusal::BlockCount,
+            12 => Refusal::NoTransaction,
+            13 => Refusal::BlockCheck,
+            14 => Refusal::Serial,
+            15 => Refusal::OtherOctets,
+            16 => Refusal::Unwritable,
+            17 => Refusal::StoredCheck,
+            18 => Refusal::StoredLayout,
+            19 => Refusal::OtherAddress,
+            _ => return Err(NotInTable(number)),
+        })
+    }
+}

@@ -11,7 +11,7 @@ use packets::header::{Common, Header};
 
 // ---- given
 
-// 0 is the base's, any other the mobile's.
+// C's number: 0 is the base's, any other the mobile's. No From: the numbering is C's alone.
 pub fn sync_of(sync: u8) -> Sync
     ensures { result ≡ sync_of sync }
 {
@@ -21,7 +21,7 @@ pub fn sync_of(sync: u8) -> Sync
     }
 }
 
-// 0 is ACK, 1 NACK, any other SACK.
+// C's number: 0 is ACK, 1 NACK, any other SACK. No From: the numbering is C's alone.
 pub fn reply_of(reply: u8) -> Reply
     ensures { result ≡ reply_of reply }
 {
@@ -32,6 +32,7 @@ pub fn reply_of(reply: u8) -> Reply
     }
 }
 
+// C's four arguments as one.
 pub fn delivery(sap: u8, ns: u8, destination: u32, source: u32) -> Delivery
     ensures { result ≡ delivery_of sap ns destination source }
 {
@@ -45,14 +46,14 @@ pub fn delivery(sap: u8, ns: u8, destination: u32, source: u32) -> Delivery
 
 // ---- given back
 
-// The 17 octets of labels, and two behind them.
+// The 17 octets of labels, and two behind them. C gets the data type as a number.
 pub fn label_octets(labels: Labels, colour: u8, datatype: u8) -> [u8; 19]
     ensures { result ≡ label_layout labels ++ colour ∷ datatype ∷ [] }
 {
-    let s = addresses::radio_octets(labels.source);
-    let t = addresses::radio_octets(labels.target);
-    let n = addresses::four_octets(labels.repeater.0);
-    let m = addresses::four_octets(labels.stream);
+    let s = labels.source.octets();
+    let t = labels.target.octets();
+    let n = labels.repeater.octets();
+    let m = labels.stream.to_be_bytes();
     [
         labels.sequence,
         s[0],
@@ -76,12 +77,12 @@ pub fn label_octets(labels: Labels, colour: u8, datatype: u8) -> [u8; 19]
     ]
 }
 
-// The 16 octets of a header's fields.
+// The 16 octets of a header's fields. C gets the format as a number.
 fn field_octets(format: u8, c: Common, x: u8, y: u8, z: u8) -> [u8; 16]
     ensures { result ≡ field_octets format c x y z }
 {
-    let to = addresses::radio_octets(c.destination);
-    let from = addresses::radio_octets(c.source);
+    let to = c.destination.octets();
+    let from = c.source.octets();
     [
         format,
         c.group,

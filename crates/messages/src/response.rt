@@ -27,7 +27,7 @@ pub struct ResponseOctets {
     pub block: Option<[u8; 12]>,
 }
 
-// The fields of a response, and the flags of a SACK.
+// The fields of a response, and the flags of a SACK. Class, type (`kind`) and status stay numbers: the bits as they were sent, any of them.
 #[derive(Clone, Copy, Debug, PartialEq, Eq)]
 pub struct ResponseFields {
     pub class: u8,
@@ -106,6 +106,7 @@ pub fn write(reply: Reply, d: Delivery, flags: [u8; 8]) -> Result<ResponseOctets
 
 // ---- reading
 
+// The fields as they were sent: numbers.
 fn fields_with(c: Common, class: u8, kind: u8, status: u8, flags: [u8; 8]) -> ResponseFields
     ensures { result ≡ fields_with c class kind status flags }
 {
@@ -130,7 +131,8 @@ fn flags_of(block: &[u8]) -> [u8; 8]
     flags
 }
 
-// What the fields of a response's header and its data block say; only the data block of a SACK is looked at.
+// What the fields of a response's header and its data block say; only the data block of a SACK is looked at. Class and type stay numbers,
+// as they were sent.
 fn read_beside(
     c: Common,
     class: u8,

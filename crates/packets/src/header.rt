@@ -66,7 +66,7 @@ fn read_fields(h: &[u8]) -> Header
     }
 }
 
-// Whether a format is 1, 2 or 3.
+// Whether a format is 1, 2 or 3. It stays a number here: four bits of an octet, any of them.
 fn known(format: u8) -> bool
     ensures { result ≡ known_format format }
 {
@@ -133,8 +133,8 @@ fn common_fits(c: Common) -> bool
         && c.requested < 2
         && c.pad < 32
         && c.sap < 16
-        && addresses::fits(c.destination)
-        && addresses::fits(c.source)
+        && c.destination.fits()
+        && c.source.fits()
         && c.full < 2
         && c.blocks < 128
 }
@@ -150,13 +150,13 @@ fn last_fits(h: Header) -> bool
     }
 }
 
-// The octets of a header by its parts.
+// The octets of a header by its parts; the format is the number that octet 0 gets.
 fn octets_of(format: u8, c: Common, last: u8) -> [u8; 12]
     requires { (format < 16) × CommonWithin c }
     ensures { result ≡ with_check (header_body format c last) }
 {
-    let to = addresses::radio_octets(c.destination);
-    let from = addresses::radio_octets(c.source);
+    let to = c.destination.octets();
+    let from = c.source.octets();
     let mut os = [0u8; 12];
     os[0] = 128 * c.group + 64 * c.requested + 16 * (c.pad / 16) + format;
     os[1] = 16 * c.sap + c.pad % 16;
@@ -185,7 +185,8 @@ pub fn write(h: Header) -> Result<[u8; 12], Refusal>
     Ok(octets_of(format_of(h), c, last_of(h)))
 }
 
-// The header of a format given as a number, with up to three fields for octet 9. A format not 1 to 3 is refused with 16.
+// The header of a format given as a number, with up to three fields for octet 9. It stays a number: C gives any, and one not 1 to 3 is
+// refused with 16.
 pub fn for_format(format: u8, c: Common, x: u8, y: u8, z: u8) -> Result<Header, Refusal>
     ensures { result ≡ header_given (header_for format c x y z) }
 {

@@ -33,12 +33,15 @@ pub struct Step {
     pub answer: Result<Answer, Refusal>,
 }
 
-fn refused(rx: Receiver, refusal: Refusal) -> Step
-    ensures { step_told result ≡ answered rx (Refused (refusal_number refusal)) }
-{
-    Step {
-        receiver: rx,
-        answer: Err(refusal),
+impl Step {
+    // The receiver as it was, and a refusal.
+    pub fn refused(rx: Receiver, refusal: Refusal) -> Step
+        ensures { step_told result ≡ answered rx (Refused (refusal_number refusal)) }
+    {
+        Step {
+            receiver: rx,
+            answer: Err(refusal),
+        }
     }
 }
 
@@ -62,7 +65,7 @@ fn heard(rx: Receiver, t: Transaction, full: bool) -> Step
         };
     }
     if !full {
-        return refused(rx, Refusal::NoTransaction);
+        return Step::refused(rx, Refusal::NoTransaction);
     }
     Step {
         receiver: Receiver {
@@ -80,11 +83,11 @@ pub fn on_header(rx: Receiver, header: &[u8]) -> Step
     ensures { (step_told result ≡ on_header rx header.now) × HeaderRefused rx (step_told result) }
 {
     if !receiver_state::is_good(rx) {
-        return refused(rx, Refusal::Size);
+        return Step::refused(rx, Refusal::Size);
     }
     match transactions::header::hear(rx.own, header) {
         Ok(h) => heard(rx, h.transaction, h.full),
-        Err(refusal) => refused(rx, refusal),
+        Err(refusal) => Step::refused(rx, refusal),
     }
 }
 
@@ -164,7 +167,7 @@ pub fn on_block(rx: Receiver, store: &mut [u8], octets: &[u8]) -> Step
 {
     let block = match block_taken(rx, store, octets) {
         Ok(block) => block,
-        Err(refusal) => return refused(rx, refusal),
+        Err(refusal) => return Step::refused(rx, refusal),
     };
     let n = block.serial as usize;
     if transactions::flags::is_set(rx.flags, n) {

@@ -49,7 +49,7 @@ pub fn idle(own: RadioAddress) -> Receiver
 pub fn fresh_for(own: RadioAddress) -> Result<Receiver, Refusal>
     ensures { result ≡ fresh_given (fresh_for own) }
 {
-    if addresses::fits(own) {
+    if own.fits() {
         Ok(idle(own))
     } else {
         Err(Refusal::Unwritable)
@@ -62,7 +62,7 @@ fn transaction_good(t: Transaction) -> bool
     ensures { result ≡ transaction_good t }
 {
     let blocks = t.blocks as usize;
-    addresses::fits(t.source)
+    t.source.fits()
         && t.sap < 16
         && t.ns < 8
         && t.pad < 32
@@ -79,7 +79,7 @@ fn transaction_none(t: Transaction) -> bool
     t.source.0 == 0 && t.sap == 0 && t.ns == 0 && t.pad == 0 && t.blocks == 0
 }
 
-// Whether the fields are those of the phase.
+// Whether the fields are those of the phase, which stays a number, as in the receiver.
 fn fields_good(phase: u8, t: Transaction) -> bool
     ensures { result ≡ cond (eqb phase 0) (transaction_none t) (transaction_good t) }
 {
@@ -90,7 +90,7 @@ fn fields_good(phase: u8, t: Transaction) -> bool
     }
 }
 
-// Whether the flags are those of the phase: not all while open, all when complete, none past the last block.
+// Whether the flags are those of the phase (a number, as in the receiver): not all while open, all when complete, none past the last block.
 #[tactic(auto, unfolding(crate::specs::Parts::flags_good, crate::specs::Receiver::none_from, foundation::specs::Order::all))]
 fn flags_good(phase: u8, blocks: usize, flags: [u8; FLAG_OCTETS]) -> bool
     ensures { result ≡ flags_good phase blocks flags }
@@ -111,7 +111,7 @@ fn flags_good(phase: u8, blocks: usize, flags: [u8; FLAG_OCTETS]) -> bool
 pub fn is_good(rx: Receiver) -> bool
     ensures { result ≡ receiver_good rx }
 {
-    addresses::fits(rx.own)
+    rx.own.fits()
         && rx.phase <= 2
         && fields_good(rx.phase, rx.transaction)
         && flags_good(rx.phase, rx.transaction.blocks as usize, rx.flags)

@@ -31,15 +31,6 @@ pub fn arrival_of(datagram: &[u8]) -> Result<Arrival, Refusal>
     })
 }
 
-fn refused(rx: Receiver, refusal: Refusal) -> Step
-    ensures { step_told result ≡ answered rx (Refused (refusal_number refusal)) }
-{
-    Step {
-        receiver: rx,
-        answer: Err(refusal),
-    }
-}
-
 // A datagram at a receiver: its header or its block, or a refusal before any receiver.
 pub fn on_datagram(rx: Receiver, store: &mut [u8], datagram: &[u8]) -> Step
     ensures { (step_told result ≡ step_of (on_datagram rx store.old datagram.now).received)
@@ -47,14 +38,14 @@ pub fn on_datagram(rx: Receiver, store: &mut [u8], datagram: &[u8]) -> Step
         × Arrives rx store.old datagram.now (on_datagram rx store.old datagram.now).received store.new }
 {
     if !receiver_state::is_good(rx) || store.len() != STORE {
-        return refused(rx, Refusal::Size);
+        return Step::refused(rx, Refusal::Size);
     }
     match arrival_of(datagram) {
-        Err(refusal) => refused(rx, refusal),
+        Err(refusal) => Step::refused(rx, refusal),
         Ok(a) => match a.kind {
             Kind::Header => receiver::event::on_header(rx, &a.octets),
             Kind::Block => receiver::event::on_block(rx, store, &a.octets),
-            Kind::Other => refused(rx, Refusal::DataType),
+            Kind::Other => Step::refused(rx, Refusal::DataType),
         },
     }
 }

@@ -129,7 +129,7 @@ fn check_blocks(
     if !layout_kept(a, b, read, store) {
         return Err(Refusal::StoredLayout);
     }
-    if read.own.0 != own.0 {
+    if read.own != own {
         return Err(Refusal::OtherAddress);
     }
     Ok(())

@@ -47,8 +47,8 @@ fn head(rx: Receiver, s0: u8, s1: u8) -> [u8; 23]
     ensures { result ≡ head0 rx.own rx.phase rx.transaction rx.flags s0 s1 }
 {
     let t = rx.transaction;
-    let own = addresses::radio_octets(rx.own);
-    let source = addresses::radio_octets(t.source);
+    let own = rx.own.octets();
+    let source = t.source.octets();
     let f = rx.flags;
     [
         1, 0, s0, s1, rx.phase, own[0], own[1], own[2], source[0], source[1], source[2], t.sap,

@@ -1,47 +1,41 @@
 -- `checks::header_words` meets its contract.
 -- Assumes nothing.
 use mathlib.Core.Path.{◌≡◌, ap, ◌∙◌}
-use mathlib.Core.List.{[]}
-use Prim.Native.Nat.{ℕ, ◌+◌, ◌*◌, ◌/◌, ◌%◌}
+use Prim.Native.Nat.{ℕ, ◌+◌, ◌*◌, ◌%◌, ◌≤◌}
 use native.Mathlib.Omega.{arith}
-use lib.ListN.{length}
-use Rattle.std.specs.Int.{w64, from_be_bytes}
+use lib.ListN.{length, take, length-take}
 use Rattle.foundation.specs.Bits.{octet_bit, value_of}
 use Rattle.polynomials.specs.Remainder.{remainder}
 use Rattle.folds.specs.Folds.{header_fourth}
-use Rattle.foundation.proofs.OctetLists.{Octets}
-use Rattle.foundation.proofs.OctetWords.{eight_read}
+use Rattle.foundation.proofs.OctetWords.{whole_word}
 use Rattle.folds.proofs.Octets.{header-first, header_more}
-use Rattle.checks.proofs.Chunks.{chunk_behind, value-front}
+use Rattle.checks.proofs.Chunks.{value-front}
 use Rattle.checks.proofs.header_words.Goals as goal
 
-pub loop-word-init : goal.loop-word-init
-loop-word-init c =
+pub loop-i-init : goal.loop-i-init
+loop-i-init c =
     let os = c.args.octets.now in
     let m : ℕ = length os % 8 in
-    let first = c.as_rchunks.ensures in
-    let none : m ≡ m + 8 * 0 = omega arith in
-    c.front-w.ensures ∙ ap (λ (k : ℕ). value_of (octet_bit c.as_rchunks.result.0.now) 0 (8 * k)) first.front_len
-    ∙ ap (λ l. value_of (octet_bit l) 0 (8 * m)) first.front ∙ value-front os m ∙ header-first os m (omega arith)
-    ∙ ap (λ (k : ℕ). remainder 64 header_fourth (octet_bit os) (8 * k)) none
+    let front : length (take m os) ≡ m = omega (arith, length-take m os) in (
+      omega arith,
+      omega arith,
+      c.front-w.ensures ∙ ap (λ (k : ℕ). value_of (octet_bit (take m os)) 0 (8 * k)) front ∙ value-front os m ∙ header-first os m (omega arith),
+    )
 
-pub loop-word-preserved : goal.loop-word-preserved
-loop-word-preserved c =
+pub loop-i-preserved : goal.loop-i-preserved
+loop-i-preserved c =
     let os = c.args.octets.now in
-    let octet : Octets os = λ j. omega (arith, c.type_inv.octets j) in
-    let t = c.loop-word in
-    let m : ℕ = length os % 8 in
-    let k = t.word-index in
-    let words = c.as_rchunks.ensures in
-    let more : m + 8 * k + 8 ≡ m + 8 * (k + 1) = omega arith in
-    let word = c.from_be_bytes.ensures ∙ ap (from_be_bytes w64) (chunk_behind 8 (length os / 8) m os c.as_rchunks.result.1.now k [] words.back (omega (arith, words.back_len)))
-    ∙ eight_read os octet (m + 8 * k) in
-    c.take_word-w.ensures ∙ header_more os (m + 8 * k) t.w c.from_be_bytes.result t.invariant word
-    ∙ ap (λ (j : ℕ). remainder 64 header_fourth (octet_bit os) (8 * j)) more
+    let t = c.loop-i in
+    let enough : t.i + 8 ≤ length os = omega (arith, t.invariant.1) in (
+      enough,
+      omega (arith, t.invariant.1),
+      c.take_word-w.ensures ∙ header_more os t.i t.w c.whole_word.result t.invariant.2 (c.whole_word.ensures ∙ whole_word os t.i enough),
+    )
 
-pub returns : goal.returns
-returns c =
+pub returns-2 : goal.returns-2
+returns-2 c =
     let os = c.args.octets.now in
-    let t = c.loop-word in
-    let all : length os % 8 + 8 * t.word-index ≡ length os = omega (arith, c.as_rchunks.ensures.back_len) in
-    t.invariant ∙ ap (λ (k : ℕ). remainder 64 header_fourth (octet_bit os) (8 * k)) all
+    let t = c.loop-i in
+    let enough : t.i + 8 ≡ length os = omega (arith, t.invariant.1) in
+    c.take_word-w.ensures ∙ header_more os t.i t.w c.whole_word.result t.invariant.2 (c.whole_word.ensures ∙ whole_word os t.i (omega arith))
+    ∙ ap (λ (j : ℕ). remainder 64 header_fourth (octet_bit os) (8 * j)) enough

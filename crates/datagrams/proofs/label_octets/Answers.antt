@@ -22,4 +22,4 @@ overflow_add-octet-3 c = omega (arith, fit_bits c.args.labels c.requires.0)
 
 pub returns : goal.returns
 unfolding label_octets
-returns c = rw (c.radio_octets-s.ensures, c.radio_octets-t.ensures, c.four_octets-n.ensures, c.four_octets-m.ensures)
+returns c = rw (c.octets-s.ensures, c.octets-t.ensures, c.octets-n.ensures, c.to_be_bytes-m.ensures)

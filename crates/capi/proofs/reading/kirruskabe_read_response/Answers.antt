@@ -40,7 +40,7 @@ returns c =
     let is = sym c.read.ensures ∙ c.in-Ok.is in
     let size : length a.flags ≡ 8 = search rules in
     gives_as (omega arith)
-    (ap (λ (os : List ℕ). (0, os ++ a.flags)) (laid a _ _ _ _ c.radio_octets-to.ensures c.radio_octets-from.ensures c.put.ensures c.put-2.ensures)
+    (ap (λ (os : List ℕ). (0, os ++ a.flags)) (laid a _ _ _ _ c.octets-to.ensures c.octets-from.ensures c.put.ensures c.put-2.ensures)
     ∙ ap₂ (λ (n : ℕ) (f : ResponseFields). (n, octets f)) (sym (ok_zero x.number (contents x) a is)) (sym (ok_same x.number (contents x) a is)))
     c.give_both.ensures
 

@@ -5,4 +5,4 @@ use Rattle.layouts.proofs.fields.field_octets.Goals as goal
 
 pub returns : goal.returns
 unfolding field_octets
-returns c = rw (c.radio_octets-to.ensures, c.radio_octets-from.ensures)
+returns c = rw (c.octets-to.ensures, c.octets-from.ensures)

@@ -6,4 +6,4 @@ use Rattle.layouts.proofs.fields.label_octets.Goals as goal
 pub returns : goal.returns
 unfolding label_layout
 returns c =
-    rw (c.radio_octets-s.ensures, c.radio_octets-t.ensures, c.four_octets-n.ensures, c.four_octets-m.ensures)
+    rw (c.octets-s.ensures, c.octets-t.ensures, c.octets-n.ensures, c.to_be_bytes-m.ensures)

@@ -6,4 +6,4 @@ use Rattle.packets.proofs.header.octets_of.Goals as goal
 pub returns : goal.returns
 returns c =
     let a = c.args in
-    octets_are a.format a.c a.last _ _ c.radio_octets-to.ensures c.radio_octets-from.ensures _ c.header-check.ensures.0
+    octets_are a.format a.c a.last _ _ c.octets-to.ensures c.octets-from.ensures _ c.header-check.ensures.0

@@ -7,4 +7,4 @@ use Rattle.stored.proofs.saving.head.Goals as goal
 pub returns : goal.returns
 returns c =
     let a = c.args in
-    head_is a.rx a.s0 a.s1 _ _ (search rules) c.radio_octets-own.ensures c.radio_octets-source.ensures
+    head_is a.rx a.s0 a.s1 _ _ (search rules) c.octets-own.ensures c.octets-source.ensures
