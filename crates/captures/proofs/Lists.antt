@@ -5,7 +5,7 @@ use mathlib.Core.Bool.{Bool, true, false, cond}
 use mathlib.Core.Logic.{◌≢◌}
 use mathlib.Core.List.{List, ◌++◌}
 use Prim.Native.Nat.{ℕ, ◌+◌, ◌*◌, ◌/◌, ◌≤◌, ◌<◌, min}
-use native.Mathlib.Nat.{zero-add, mul-le-mul_left, le_trans}
+use native.Mathlib.Nat.{mul-le-mul_left, le_trans}
 use native.Mathlib.Omega.{arith}
 use lib.ListN.{length, take, drop}
 use borrow.Author.Tests.{eq-eqb, ne_eqb, le-leb, lt-leb}
@@ -19,8 +19,7 @@ use Rattle.foundation.proofs.Refusals.{ok_same}
 use Rattle.foundation.specs.Octets.{put}
 use Rattle.receiver_state.specs.Receiver.{store_size}
 use Rattle.counting.specs.Counts.{counts_of}
-use Rattle.texts.specs.Parts.{Wrote}
-use Rattle.texts.proofs.Writing.{wrote_front}
+use Rattle.texts.proofs.Writing.{put_front}
 use Rattle.captures.specs.declared.Gateway.{Gateway}
 use Rattle.captures.specs.declared.Listed.{Listed}
 use Rattle.captures.specs.declared.Listing.{Listing}
@@ -118,8 +117,8 @@ module _ (l : Listing) (g : Gateway) (store os : List ℕ) (last : Bool) (text :
       ends_inside r e store' text' c = omega (arith, c.ends, ap (λ (x : ListAnswer). x.end) (taken_as r e))
 
       module _ (k : ℕ) (ek : k ≡ datagrams_answered l last os text) (g' : Gateway) (store' : List ℕ) (end : ℕ) (text' : List ℕ) (taken : ℕ)
-          (left : running g' store' ≡ left_by_all (running g store) (cut k os)) (wrote : Wrote (lines_of l (running g store) (cut k os)) text 0 end text')
-          (few : end ≤ line_room l * k) (et : taken ≡ octets_of k os) where
+          (left : running g' store' ≡ left_by_all (running g store) (cut k os)) (ends : end ≡ length (lines_of l (running g store) (cut k os)))
+          (written : text' ≡ put text 0 (lines_of l (running g store) (cut k os))) (few : end ≤ line_room l * k) (et : taken ≡ octets_of k os) where
         abbrev given : ListAnswer
         given = record { number = 0; gateway = g'; taken = taken; end = end }
 
@@ -131,8 +130,7 @@ module _ (l : Listing) (g : Gateway) (store os : List ℕ) (last : Bool) (text :
         inside = omega (arith, few, count_room l last (length os) (length text) k fits)
 
         front : take end text' ≡ lines_of l (running g store) (cut k os)
-        front =
-            wrote_front _ text end text' (omega (arith, wrote.0, inside)) wrote
+        front = put_front _ text text' end (omega (arith, ends, inside)) ends written
 
         the_claims : ListClaims l (running g store) os last text given store' text'
         the_claims = record {
@@ -153,7 +151,7 @@ module _ (l : Listing) (g : Gateway) (store os : List ℕ) (last : Bool) (text :
             let gateway : g' ≡ (left_by_all (running g store) (cut (datagrams_answered l last os text) os)).gateway =
             ap (λ (s : Running). s.gateway) left ∙ ap (λ (n : ℕ). (left_by_all (running g store) (cut n os)).gateway) ek in
             let ended : end ≡ length (lines_of l (running g store) (cut (datagrams_answered l last os text) os)) =
-            wrote.0 ∙ zero-add _ ∙ ap (λ (n : ℕ). length (lines_of l (running g store) (cut n os))) ek in
+            ends ∙ ap (λ (n : ℕ). length (lines_of l (running g store) (cut n os))) ek in
             rw taken_on (λ i. record { number = 0; gateway = gateway i; taken = (et ∙ ap (λ (n : ℕ). octets_of n os) ek) i; end = ended i })
 
         pub lists : Lists (Ok (record { gateway = g'; taken = taken; end = end })) store' text'
@@ -161,6 +159,6 @@ module _ (l : Listing) (g : Gateway) (store os : List ℕ) (last : Bool) (text :
         lists = (
           ap listed_given given_is,
           rw taken_on (ap (λ (s : Running). s.store) left ∙ ap (λ (n : ℕ). (left_by_all (running g store) (cut n os)).store) ek),
-          rw taken_on (wrote.1 ∙ ap (λ (n : ℕ). put text 0 (lines_of l (running g store) (cut n os))) ek),
+          rw taken_on (written ∙ ap (λ (n : ℕ). put text 0 (lines_of l (running g store) (cut n os))) ek),
           subst (λ (r : ListAnswer). ListClaims l (running g store) os last text r store' text') given_is the_claims,
         )

@@ -9,7 +9,8 @@ use lib.ListN.{length, take, drop, length-append, length-drop}
 use lib.Seq.{drop-drop}
 use Rattle.foundation.proofs.Copying.{length-put, take_shorter}
 use Rattle.receiver_state.specs.Receiver.{store_size}
-use Rattle.texts.specs.Parts.{Wrote, AtMost}
+use Rattle.texts.specs.Parts.{HasRoom, Wrote, AtMost}
+use Rattle.texts.specs.declared.Writer.{Writer}
 use Rattle.texts.proofs.Writing.{wrote_none, behind}
 use Rattle.captures.specs.declared.Gateway.{Gateway}
 use Rattle.captures.specs.declared.Listing.{Listing}
@@ -59,13 +60,13 @@ same_counted c (Refused n) = refl
 same_counted c (Confirmed a) = refl
 
 -- the step, from what the receiver gave and what was counted and written
-pub answered-step : (l : Listing) (g : Gateway) (store d text : List ℕ) (at : ℕ) (x : event.Step) (store' : List ℕ) (c : Counts) (r : ℕ) (text' : List ℕ)
+pub answered-step : (l : Listing) (g : Gateway) (store d : List ℕ) (x : event.Step) (store' : List ℕ) (c : Counts) (w w' : Writer)
     → x ≡ step_of (on_datagram g.receiver store d).received → store' ≡ (on_datagram g.receiver store d).store → c ≡ counted g.counts (Confirmed x.answer)
-    → AtMost (line_room l) (listed_line l g.counts.datagrams (record { said = event.said x.answer store'; transaction = x.receiver.transaction })) text at r text'
+    → AtMost (line_room l) (listed_line l g.counts.datagrams (record { said = event.said x.answer store'; transaction = x.receiver.transaction })) w w'
     → (running (record { receiver = x.receiver; counts = c }) store' ≡ left_by (running g store) d)
-    × AtMost (line_room l) (listed_line l g.counts.datagrams (outcome_of (running g store) d)) text at r text'
+    × AtMost (line_room l) (listed_line l g.counts.datagrams (outcome_of (running g store) d)) w w'
 unfolding left_by outcome_of answer_given
-answered-step l g store d text at x store' c r text' ex es ec w =
+answered-step l g store d x store' c w w' ex es ec p =
     let y = on_datagram g.receiver store d in
     let counts = ec ∙ ap (λ (s : event.Step). counted g.counts (Confirmed s.answer)) ex ∙ same_counted g.counts y.received.answer in
     let stepped : ◌≡◌ {A = Outcome} (record { said = event.said x.answer store'; transaction = x.receiver.transaction })
@@ -74,7 +75,7 @@ answered-step l g store d text at x store' c r text' ex es ec w =
     let outcome : ◌≡◌ {A = Outcome} (record { said = event.said x.answer store'; transaction = x.receiver.transaction }) (outcome_of (running g store) d) =
     stepped ∙ ap (λ (s : Said). record { said = s; transaction = y.received.receiver.transaction }) (same_said y.received.answer y.store) in (
       λ i. running (record { receiver = (ex i).receiver; counts = counts i }) (es i),
-      subst (λ (o : Outcome). AtMost (line_room l) (listed_line l g.counts.datagrams o) text at r text') outcome w,
+      subst (λ (o : Outcome). AtMost (line_room l) (listed_line l g.counts.datagrams o) w w') outcome p,
     )
 
 -- the datagram at a place
@@ -97,59 +98,59 @@ datagram-at octets i k e =
 
 -- ---- part of the way through
 
--- i of the datagrams are answered and their lines stand in front; what is left leads to where the whole leads
-pub record Midway (l : Listing) (g : Gateway) (store octets text : List ℕ) (count i : ℕ) (now : Gateway) (store' : List ℕ) (end : ℕ) (text' : List ℕ) : Type 0 where
+-- i of the datagrams are answered and their lines stand behind the text; what is left leads to where the whole leads
+pub record Midway (l : Listing) (g : Gateway) (store octets : List ℕ) (count : ℕ) (w : Writer) (i : ℕ) (now : Gateway) (store' : List ℕ) (w' : Writer) : Type 0 where
   pub done : List ℕ
   pub part : i ≤ count
   pub room : length store' ≡ store_size
-  pub wrote : Wrote done text 0 end text'
+  pub wrote : Wrote done w w'
   pub few : length done ≤ line_room l * i
   pub left : left_by_all (running g store) (cut count octets) ≡ left_by_all (running now store') (cut (count - i) (drop (datagram_size * i) octets))
   pub lines : lines_of l (running g store) (cut count octets) ≡ done ++ lines_of l (running now store') (cut (count - i) (drop (datagram_size * i) octets))
 
-module _ (l : Listing) (g : Gateway) (store octets text : List ℕ) (count : ℕ) where
-  pub midway_start : length store ≡ store_size → Midway l g store octets text count 0 g store 0 text
+module _ (l : Listing) (g : Gateway) (store octets : List ℕ) (count : ℕ) (w : Writer) where
+  pub midway_start : length store ≡ store_size → Midway l g store octets count w 0 g store w
   midway_start h =
       let e : count - 0 ≡ count = omega arith in
       record {
         done = [];
         part = omega arith;
         room = h;
-        wrote = wrote_none text 0;
+        wrote = wrote_none w;
         few = omega arith;
         left = rw e;
         lines = rw e;
       }
 
-  module _ (i : ℕ) (now : Gateway) (store' : List ℕ) (end : ℕ) (text' : List ℕ) (m : Midway l g store octets text count i now store' end text') where
-    pub midway_length : length text' ≡ length text
-    midway_length = ap length m.wrote.1 ∙ length-put text 0 m.done
+  module _ (i : ℕ) (now : Gateway) (store' : List ℕ) (w' : Writer) (m : Midway l g store octets count w i now store' w') where
+    -- a line more has room
+    one_more : i < count → line_room l * (i + 1) ≤ line_room l * count
+    one_more h = mul-le-mul_left (line_room l) (omega arith)
 
-    pub midway_room : i < count → line_room l * count ≤ length text → end + line_room l ≤ length text'
-    midway_room h room =
-        let more : line_room l * (i + 1) ≡ line_room l * i + line_room l = mul-add (line_room l) i 1 ∙ ap (λ (k : ℕ). line_room l * i + k) (mul-one (line_room l)) in
-        let most : line_room l * (i + 1) ≤ line_room l * count = mul-le-mul_left (line_room l) (omega arith) in
-        omega (arith, m.wrote.0, m.few, midway_length)
+    so_many : line_room l * (i + 1) ≡ line_room l * i + line_room l
+    so_many = mul-add (line_room l) i 1 ∙ ap (λ (k : ℕ). line_room l * i + k) (mul-one (line_room l))
 
-    pub midway_more : (d : List ℕ) → i < count → d ≡ take datagram_size (drop (datagram_size * i) octets) → line_room l * count ≤ length text
-        → (now'' : Gateway) (store'' : List ℕ) (end'' : ℕ) (text'' : List ℕ) → running now'' store'' ≡ left_by (running now store') d
-        → AtMost (line_room l) (listed_line l now.counts.datagrams (outcome_of (running now store') d)) text' end end'' text''
-        → length store'' ≡ store_size → Midway l g store octets text count (i + 1) now'' store'' end'' text''
+    pub midway_room : i < count → HasRoom (line_room l * count) w → HasRoom (line_room l) w'
+    midway_room h room = omega (arith, one_more h, so_many, m.wrote.end, m.few, ap length m.wrote.text, length-put w.text.now w.end m.done)
+
+    pub midway_more : (d : List ℕ) → i < count → d ≡ take datagram_size (drop (datagram_size * i) octets) → HasRoom (line_room l * count) w
+        → (now'' : Gateway) (store'' : List ℕ) (w'' : Writer) → running now'' store'' ≡ left_by (running now store') d
+        → AtMost (line_room l) (listed_line l now.counts.datagrams (outcome_of (running now store') d)) w' w''
+        → length store'' ≡ store_size → Midway l g store octets count w (i + 1) now'' store'' w''
     unfolding left_by_all
-    midway_more d h e room now'' store'' end'' text'' left w size =
+    midway_more d h e room now'' store'' w'' left p size =
         let s = running now store' in
         let line = listed_line l now.counts.datagrams (outcome_of s d) in
         let later = cut (count - (i + 1)) (drop (datagram_size * (i + 1)) octets) in
         let step = cut_more octets count i h ∙ ap (λ (x : List ℕ). x ∷ later) (sym e) in
-        let more : line_room l * (i + 1) ≡ line_room l * i + line_room l = mul-add (line_room l) i 1 ∙ ap (λ (k : ℕ). line_room l * i + k) (mul-one (line_room l)) in
-        let most : line_room l * (i + 1) ≤ line_room l * count = mul-le-mul_left (line_room l) (omega arith) in
-        let long : length line ≤ line_room l = omega (arith, w.0.0, w.1) in
+        let most = one_more h in
+        let long : length line ≤ line_room l = omega (arith, p.wrote.end, p.most) in
         record {
           done = m.done ++ line;
           part = omega arith;
           room = size;
-          wrote = behind m.done line text 0 end text' end'' text'' (omega (arith, m.few)) m.wrote w.0;
-          few = omega (arith, m.few, length-append m.done line);
+          wrote = behind m.done line w w' w'' (omega (arith, m.few, most, so_many)) m.wrote p.wrote;
+          few = omega (arith, m.few, length-append m.done line, so_many);
           left = m.left ∙ ap (left_by_all s) step ∙ ap (λ (x : Running). left_by_all x later) (sym left);
           lines = m.lines ∙ ap (λ (ds : List (List ℕ)). m.done ++ lines_of l s ds) step
               ∙ ap (λ (x : List ℕ). m.done ++ x) (lines_cons l s d later ∙ ap (λ (x : Running). line ++ lines_of l x later) (sym left))
@@ -157,14 +158,14 @@ module _ (l : Listing) (g : Gateway) (store octets text : List ℕ) (count : ℕ
         }
 
     pub midway_end : count ≤ i → (running now store' ≡ left_by_all (running g store) (cut count octets))
-        × Wrote (lines_of l (running g store) (cut count octets)) text 0 end text' × (end ≤ line_room l * count)
+        × AtMost (line_room l * count) (lines_of l (running g store) (cut count octets)) w w'
     unfolding cut left_by_all
     midway_end h =
         let e : count - i ≡ 0 = omega arith in
         let whole : lines_of l (running g store) (cut count octets) ≡ m.done =
         rw e at m.lines ∙ ap (λ (x : List ℕ). m.done ++ x) (lines_none l (running now store')) ∙ append-nil m.done in
-        let same : i ≡ count = omega (arith, m.part) in (
+        let same : i ≡ count = omega (arith, m.part) in
+        let few : length m.done ≤ line_room l * count = subst (λ (k : ℕ). length m.done ≤ line_room l * k) same m.few in (
           sym (rw e at m.left),
-          subst (λ (x : List ℕ). Wrote x text 0 end text') (sym whole) m.wrote,
-          subst (λ (k : ℕ). end ≤ line_room l * k) same (omega (arith, m.wrote.0, m.few)),
+          subst (λ (x : List ℕ). AtMost (line_room l * count) x w w') (sym whole) (record { wrote = m.wrote; most = omega (arith, m.wrote.end, few) }),
         )

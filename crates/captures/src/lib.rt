@@ -6,7 +6,7 @@ ghost use Rattle.foundation.specs.Octets.{put};
 ghost use Rattle.receiver_state.specs.Receiver.{store_size};
 ghost use Rattle.receiver.specs.Events.{said, told};
 ghost use Rattle.texts.specs.Texts.{end_at};
-ghost use Rattle.texts.specs.Parts.{Wrote, AtMost};
+ghost use Rattle.texts.specs.Parts.{HasRoom, Wrote, AtMost};
 ghost use Rattle.captures.specs.Lines.{number_line, end_line, source_part, size_part, message_line, bad_line, delivery_line, closing, line_room};
 ghost use Rattle.captures.specs.Parts.{listed_line};
 ghost use Rattle.captures.specs.Captures.{datagrams_in, whole_in, running, started, left_by, outcome_of, cut, left_by_all, lines_of, listed_given, store_after, text_after};
@@ -17,6 +17,7 @@ use counting::Counts;
 use foundation::refusal::Refusal;
 use receiver::event::Answer;
 use receiver_state::{Receiver, STORE};
+use texts::Writer;
 use transactions::header::Transaction;
 
 const DATAGRAM: usize = 53;
@@ -56,118 +57,117 @@ pub fn start(own: &[u8]) -> Gateway
     }
 }
 
-// ---- lines: each function writes at a place that has room, and says where the line ends
+// ---- lines: each function writes behind a text where there is room
 
 // Index and number of a datagram.
-fn put_number(text: &mut [u8], at: usize, index: u64, number: u8) -> usize
-    requires { at + 25 ≤ length text.old }
-    ensures { AtMost 25 (number_line index number) text.old at result text.new }
+fn put_number(out: &mut Writer, index: u64, number: u8)
+    requires { HasRoom 25 out.old }
+    ensures { AtMost 25 (number_line index number) out.old out.new }
 {
-    let space = texts::put_decimal(text, at, index);
-    let second = texts::put_word(text, space, b" ");
-    let end = texts::put_decimal(text, second, number as u64);
-    texts::put_word(text, end, b"\n")
+    out.decimal(index);
+    out.word(b" ");
+    out.decimal(number as u64);
+    out.word(b"\n");
 }
 
 // Index and source of a message.
-fn put_source(text: &mut [u8], at: usize, index: u64, t: Transaction) -> usize
-    requires { at + 31 ≤ length text.old }
-    ensures { Wrote (source_part index t) text.old at result text.new }
+fn put_source(out: &mut Writer, index: u64, t: Transaction)
+    requires { HasRoom 31 out.old }
+    ensures { Wrote (source_part index t) out.old out.new }
 {
-    let first = texts::put_decimal(text, at, index);
-    let second = texts::put_word(text, first, b" ");
-    texts::put_decimal(text, second, t.source.0 as u64)
+    out.decimal(index);
+    out.word(b" ");
+    out.decimal(t.source.0 as u64);
 }
 
 // Its SAP and length.
-fn put_size(text: &mut [u8], at: usize, t: Transaction, size: usize) -> usize
-    requires { (at + 8 ≤ length text.old) × (size ≤ store_size) }
-    ensures { Wrote (size_part t size) text.old at result text.new }
+fn put_size(out: &mut Writer, t: Transaction, size: usize)
+    requires { HasRoom 8 out.old × (size ≤ store_size) }
+    ensures { Wrote (size_part t size) out.old out.new }
 {
-    let first = texts::put_word(text, at, b" ");
-    let second = texts::put_decimal(text, first, t.sap as u64);
-    let third = texts::put_word(text, second, b" ");
-    texts::put_decimal(text, third, size as u64)
+    out.word(b" ");
+    out.decimal(t.sap as u64);
+    out.word(b" ");
+    out.decimal(size as u64);
 }
 
 // A message's line: index, source, SAP, length and octets.
-fn put_message(text: &mut [u8], at: usize, index: u64, t: Transaction, message: &[u8]) -> usize
-    requires { (at + 1302 ≤ length text.old) × (length message.now ≤ store_size) }
-    ensures { AtMost 1302 (message_line index t message.now) text.old at result text.new }
+fn put_message(out: &mut Writer, index: u64, t: Transaction, message: &[u8])
+    requires { HasRoom 1302 out.old × (length message.now ≤ store_size) }
+    ensures { AtMost 1302 (message_line index t message.now) out.old out.new }
 {
-    let size = message.len();
-    let first = put_source(text, at, index, t);
-    let second = put_size(text, first, t, size);
-    let third = texts::put_word(text, second, b" ");
-    let fourth = texts::put_octets(text, third, message);
-    texts::put_word(text, fourth, b"\n")
+    put_source(out, index, t);
+    put_size(out, t, message.len());
+    out.word(b" ");
+    out.octets(message);
+    out.word(b"\n");
 }
 
 // A bad message's line: index, source and the word.
-fn put_bad(text: &mut [u8], at: usize, index: u64, t: Transaction) -> usize
-    requires { at + 1302 ≤ length text.old }
-    ensures { AtMost 1302 (bad_line index t) text.old at result text.new }
+fn put_bad(out: &mut Writer, index: u64, t: Transaction)
+    requires { HasRoom 1302 out.old }
+    ensures { AtMost 1302 (bad_line index t) out.old out.new }
 {
-    let first = put_source(text, at, index, t);
-    texts::put_word(text, first, b" bad\n")
+    put_source(out, index, t);
+    out.word(b" bad\n");
 }
 
 // The line of an answer: number or delivery.
+#[tactic(auto, unfolding(crate::specs::Lines::line_room, crate::specs::Parts::listed_line))]
 fn put_line(
     listing: Listing,
-    text: &mut [u8],
-    at: usize,
+    out: &mut Writer,
     index: u64,
     t: Transaction,
     a: Result<Answer, Refusal>,
     store: &[u8],
-) -> usize
-    requires { (at + line_room listing ≤ length text.old) × (length store.now ≡ store_size) }
-    ensures { AtMost (line_room listing) (listed_line listing index (record { said = said (told a) store.now; transaction = t })) text.old at result text.new }
+)
+    requires { HasRoom (line_room listing) out.old × (length store.now ≡ store_size) }
+    ensures { AtMost (line_room listing) (listed_line listing index (record { said = said (told a) store.now; transaction = t })) out.old out.new }
 {
     match listing {
-        Listing::Numbers => put_number(text, at, index, counting::number_of(a)),
-        Listing::Deliveries => put_delivery(text, at, index, t, a, store),
+        Listing::Numbers => put_number(out, index, counting::number_of(a)),
+        Listing::Deliveries => put_delivery(out, index, t, a, store),
     }
 }
 
 // The line of an answer that hands a message on, or finds it bad; a message stands in the store.
+#[tactic(auto, unfolding(crate::specs::Lines::delivery_line, receiver::specs::Events::said))]
 fn put_delivery(
-    text: &mut [u8],
-    at: usize,
+    out: &mut Writer,
     index: u64,
     t: Transaction,
     a: Result<Answer, Refusal>,
     store: &[u8],
-) -> usize
-    requires { (at + 1302 ≤ length text.old) × (length store.now ≡ store_size) }
-    ensures { AtMost 1302 (delivery_line index t (said (told a) store.now)) text.old at result text.new }
+)
+    requires { HasRoom 1302 out.old × (length store.now ≡ store_size) }
+    ensures { AtMost 1302 (delivery_line index t (said (told a) store.now)) out.old out.new }
 {
     match a {
-        Err(_) => at,
-        Ok(Answer::Opened) => at,
-        Ok(Answer::Repeat) => at,
-        Ok(Answer::Stored) => at,
-        Ok(Answer::Bad) => put_bad(text, at, index, t),
         Ok(Answer::Message(n)) => {
             let end = foundation::octets::shorter(n, store.len());
-            put_message(text, at, index, t, &store[..end])
+            put_message(out, index, t, &store[..end]);
         }
+        Ok(Answer::Bad) => put_bad(out, index, t),
+        Ok(Answer::Opened) => {}
+        Ok(Answer::Repeat) => {}
+        Ok(Answer::Stored) => {}
+        Err(_) => {}
     }
 }
 
 // `end` and the counts.
-fn put_end(c: Counts, line: &mut [u8]) -> usize
-    requires { 67 ≤ length line.old }
-    ensures { Wrote (end_line c) line.old 0 result line.new }
+fn put_end(out: &mut Writer, c: Counts)
+    requires { HasRoom 67 out.old }
+    ensures { Wrote (end_line c) out.old out.new }
 {
-    let word = texts::put_word(line, 0, b"end ");
-    let first = texts::put_decimal(line, word, c.datagrams);
-    let second = texts::put_word(line, first, b" ");
-    let third = texts::put_decimal(line, second, c.messages);
-    let fourth = texts::put_word(line, third, b" ");
-    let fifth = texts::put_decimal(line, fourth, c.refused);
-    texts::put_word(line, fifth, b"\n")
+    out.word(b"end ");
+    out.decimal(c.datagrams);
+    out.word(b" ");
+    out.decimal(c.messages);
+    out.word(b" ");
+    out.decimal(c.refused);
+    out.word(b"\n");
 }
 
 // The last line of a listing of numbers, at the start of the text where it has room.
@@ -175,11 +175,16 @@ fn close_numbers(c: Counts, text: &mut [u8]) -> usize
     ensures { (result ≡ end_at text.old 0 (end_line c)) × (text.new ≡ put text.old 0 (end_line c)) }
 {
     let mut line = [0u8; END];
-    let end = put_end(c, &mut line);
-    texts::put_word(text, 0, &line[..end])
+    let mut last = Writer::new(&mut line);
+    put_end(&mut last, c);
+    let size = last.end;
+    let mut out = Writer::new(text);
+    out.word(&line[..size]);
+    out.end
 }
 
 // The last line of a listing, if it has one, at the start of the text where it has room.
+#[tactic(auto, unfolding(crate::specs::Lines::closing))]
 pub fn close(listing: Listing, c: Counts, text: &mut [u8]) -> usize
     ensures { (result ≡ end_at text.old 0 (closing listing c)) × (text.new ≡ put text.old 0 (closing listing c)) }
 {
@@ -191,74 +196,53 @@ pub fn close(listing: Listing, c: Counts, text: &mut [u8]) -> usize
 
 // ---- datagrams
 
-// The gateway after datagrams, and where their lines end.
-#[derive(Clone, Copy)]
-pub struct Step {
-    pub gateway: Gateway,
-    pub end: usize,
-}
-
-// A datagram's answer, and its line at a place of the text.
+// The gateway after a datagram, and its line behind the text.
 fn answer(
     listing: Listing,
     g: Gateway,
     store: &mut [u8],
     datagram: &[u8],
-    text: &mut [u8],
-    at: usize,
-) -> Step
-    requires { (at + line_room listing ≤ length text.old) × (length store.old ≡ store_size) }
-    ensures { (running result.gateway store.new ≡ left_by (running g store.old) datagram.now)
-        × AtMost (line_room listing) (listed_line listing g.counts.datagrams (outcome_of (running g store.old) datagram.now))
-        text.old at result.end text.new }
+    out: &mut Writer,
+) -> Gateway
+    requires { HasRoom (line_room listing) out.old × (length store.old ≡ store_size) }
+    ensures { (running result store.new ≡ left_by (running g store.old) datagram.now)
+        × AtMost (line_room listing) (listed_line listing g.counts.datagrams (outcome_of (running g store.old) datagram.now)) out.old out.new }
 {
     let step = reception::on_datagram(g.receiver, store, datagram);
     let next = step.receiver;
-    let end = put_line(
+    put_line(
         listing,
-        text,
-        at,
+        out,
         g.counts.datagrams,
         next.transaction,
         step.answer,
         store,
     );
-    Step {
-        gateway: Gateway {
-            receiver: next,
-            counts: counting::counted(g.counts, step.answer),
-        },
-        end,
+    Gateway {
+        receiver: next,
+        counts: counting::counted(g.counts, step.answer),
     }
 }
 
-// The answers to the first datagrams of the octets, so many, and their lines at the start of the text.
+// The gateway after the first datagrams of the octets, so many, and their lines behind the text.
 fn answer_all(
     listing: Listing,
     g: Gateway,
     store: &mut [u8],
     octets: &[u8],
     count: usize,
-    text: &mut [u8],
-) -> Step
-    requires { (length store.old ≡ store_size) × (53 * count < length octets.now + 53) × (line_room listing * count ≤ length text.old) }
-    ensures { (running result.gateway store.new ≡ left_by_all (running g store.old) (cut count octets.now))
-        × Wrote (lines_of listing (running g store.old) (cut count octets.now)) text.old 0 result.end text.new
-        × (result.end ≤ line_room listing * count) }
+    out: &mut Writer,
+) -> Gateway
+    requires { (length store.old ≡ store_size) × (53 * count < length octets.now + 53) × HasRoom (line_room listing * count) out.old }
+    ensures { (running result store.new ≡ left_by_all (running g store.old) (cut count octets.now))
+        × AtMost (line_room listing * count) (lines_of listing (running g store.old) (cut count octets.now)) out.old out.new }
 {
     let size = octets.len();
-    let mut now = Step { gateway: g, end: 0 };
+    let mut now = g;
     for i in 0..count {
         let at = DATAGRAM * i;
         let next = at + foundation::octets::shorter(DATAGRAM, size - at);
-        now = answer(
-            listing,
-            now.gateway,
-            store,
-            &octets[at..next],
-            text,
-            now.end,
-        );
+        now = answer(listing, now, store, &octets[at..next], out);
     }
     now
 }
@@ -278,6 +262,7 @@ fn count(listing: Listing, size: usize, last: bool, room: usize) -> usize
 }
 
 // The most octets of a line.
+#[tactic(auto, unfolding(crate::specs::Lines::line_room))]
 fn line_room(listing: Listing) -> usize
     ensures { result ≡ line_room listing }
 {
@@ -318,10 +303,11 @@ pub fn list(
         return Err(Refusal::Size);
     }
     let k = count(listing, size, last, room);
-    let step = answer_all(listing, g, store, octets, k, text);
+    let mut out = Writer::new(text);
+    let gateway = answer_all(listing, g, store, octets, k, &mut out);
     Ok(Listed {
-        gateway: step.gateway,
+        gateway,
         taken: octets_of(k, size),
-        end: step.end,
+        end: out.end,
     })
 }

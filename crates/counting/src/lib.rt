@@ -1,7 +1,7 @@
 // The counts that the gateway prints: datagrams, messages handed on and refusals, over the answers that it gave.
 #![tactic(auto)]
 
-ghost use Rattle.std.specs.Prelude.{◌≡◌, [], ◌∷◌, if◌then◌else◌};
+ghost use Rattle.std.specs.Prelude.{◌≡◌, [], ◌∷◌};
 ghost use Rattle.counting.specs.Counts.{answer_number, is_message, is_refused, counts_of, CountsOn};
 ghost use Rattle.counting.specs.Counts.{counted as Counts·counted};
 ghost use Rattle.receiver.specs.Events.{told};
@@ -38,40 +38,27 @@ pub fn none() -> Counts
     }
 }
 
-// 1 for a message that is handed on, else 0; and 1 for a refusal, else 0.
-#[derive(Clone, Copy)]
-struct Marks {
-    message: u64,
-    refusal: u64,
-}
-
-fn marked(message: u64, refusal: u64) -> Marks
-    ensures { (result.message ≡ message) × (result.refusal ≡ refusal) }
-{
-    Marks { message, refusal }
-}
-
-fn marks_of(a: Result<Answer, Refusal>) -> Marks
-    ensures { (result.message ≡ (if is_message (Confirmed (told a)) then 1 else 0)) × (result.refusal ≡ (if is_refused (Confirmed (told a)) then 1 else 0)) }
-{
-    match a {
-        Ok(Answer::Opened) => marked(0, 0),
-        Ok(Answer::Repeat) => marked(0, 0),
-        Ok(Answer::Stored) => marked(0, 0),
-        Ok(Answer::Bad) => marked(0, 0),
-        Ok(Answer::Message(_)) => marked(1, 0),
-        Err(_) => marked(0, 1),
-    }
-}
-
 // The counts with one answer more.
+#[tactic(auto, using(crate::proofs::Counting::counts_on), unfolding(crate::specs::Counts::counted, crate::specs::Counts::is_message, crate::specs::Counts::hands_on, crate::specs::Counts::is_refused, crate::specs::Counts::refuses, reception::specs::Reception::said, receiver::specs::Events::said))]
 pub fn counted(c: Counts, a: Result<Answer, Refusal>) -> Counts
-    ensures { (result ≡ Counts·counted c (Confirmed (told a))) × CountsOn (Confirmed (told a) ∷ []) }
+    ensures counts { result ≡ Counts·counted c (Confirmed (told a)) }
+    ensures goes_on { CountsOn (Confirmed (told a) ∷ []) }
 {
-    let m = marks_of(a);
-    Counts {
-        datagrams: std::num::wrapping_add_u64(c.datagrams, 1),
-        messages: std::num::wrapping_add_u64(c.messages, m.message),
-        refused: std::num::wrapping_add_u64(c.refused, m.refusal),
+    let datagrams = c.datagrams.wrapping_add(1);
+    match a {
+        Ok(Answer::Message(_)) => Counts {
+            datagrams,
+            messages: c.messages.wrapping_add(1),
+            ..c
+        },
+        Ok(Answer::Opened | Answer::Repeat | Answer::Stored | Answer::Bad) => Counts {
+            datagrams,
+            ..c
+        },
+        Err(_) => Counts {
+            datagrams,
+            refused: c.refused.wrapping_add(1),
+            ..c
+        },
     }
 }

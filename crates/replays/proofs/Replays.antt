@@ -5,13 +5,12 @@ use mathlib.Core.Bool.{Bool, true}
 use mathlib.Core.Logic.{◌≢◌}
 use mathlib.Core.List.{List, [], ◌∷◌, ◌++◌, append_assoc}
 use Prim.Native.Nat.{ℕ, ◌*◌, ◌/◌, ◌≤◌, ◌<◌}
-use native.Mathlib.Nat.{zero-add}
 use native.Mathlib.Omega.{arith}
 use lib.ListN.{length, take, drop}
 use borrow.Author.Tests.{eq-eqb, ne_eqb, le-leb, lt-leb}
 use Rattle.foundation.specs.Order.{first_failed}
-use Rattle.texts.specs.Parts.{Wrote}
-use Rattle.texts.proofs.Writing.{wrote_front}
+use Rattle.foundation.specs.Octets.{put}
+use Rattle.texts.proofs.Writing.{put_front}
 use Rattle.receiver_state.specs.Receiver.{store_size}
 use Rattle.receiver_state.specs.declared.Receiver.{Receiver}
 use Rattle.history.specs.Run.{State}
@@ -110,7 +109,7 @@ module _ (rx : Receiver) (store os : List ℕ) (last : Bool) (text : List ℕ) w
       s = state_of rx store
 
       module _ (octets : Octets os) (rx' : Receiver) (store' : List ℕ) (taken end : ℕ) (text' : List ℕ) (left : state_of rx' store' ≡ left_by_records s rs)
-          (wrote : Wrote (text_of s rs) text 0 end text') (few : end ≤ report_room * k) (et : taken ≡ octets_taken last k os) (inside : taken ≤ length os) where
+          (ended : end ≡ length (text_of s rs)) (written : text' ≡ put text 0 (text_of s rs)) (few : end ≤ report_room * k) (et : taken ≡ octets_taken last k os) (inside : taken ≤ length os) where
         abbrev given : ReplayAnswer
         given = record { number = 0; receiver = rx'; taken = taken; end = end }
 
@@ -118,7 +117,7 @@ module _ (rx : Receiver) (store os : List ℕ) (last : Bool) (text : List ℕ) w
         ends = omega (arith, few)
 
         front : take end text' ≡ text_of s rs
-        front = wrote_front _ text end text' (omega (arith, wrote.0, ends)) wrote
+        front = put_front _ text text' end (omega (arith, ended, ends)) ended written
 
         the_claims : ReplayClaims s os last text given store' text'
         unfolding records_answered
@@ -135,7 +134,6 @@ module _ (rx : Receiver) (store os : List ℕ) (last : Bool) (text : List ℕ) w
         given_is : given ≡ replayed rx store os last text
         unfolding replayed records_answered
         given_is =
-            let ended : end ≡ length (text_of s rs) = wrote.0 ∙ zero-add _ in
             rw taken_on (λ i. record { number = 0; receiver = (left i).receiver; taken = et i; end = ended i })
 
         pub replays : Replays (Ok (record { receiver = rx'; taken = taken; end = end })) store' text'
@@ -143,6 +141,6 @@ module _ (rx : Receiver) (store os : List ℕ) (last : Bool) (text : List ℕ) w
         replays = (
           ap replayed_given given_is,
           rw taken_on (ap (λ (x : State). x.store) left),
-          rw taken_on wrote.1,
+          rw taken_on written,
           subst (λ (r : ReplayAnswer). ReplayClaims s os last text r store' text') given_is the_claims,
         )

@@ -13,7 +13,8 @@ use Rattle.foundation.proofs.Tests.{either}
 use Rattle.foundation.specs.Order.{first_failed}
 use Rattle.receiver_state.specs.Receiver.{store_size, receiver_good}
 use Rattle.receiver_state.specs.declared.Receiver.{Receiver}
-use Rattle.texts.specs.Parts.{Wrote, AtMost}
+use Rattle.texts.specs.Parts.{HasRoom, Wrote, AtMost}
+use Rattle.texts.specs.declared.Writer.{Writer}
 use Rattle.texts.proofs.Writing.{wrote_none, behind}
 use Rattle.history.specs.Run.{State}
 use Rattle.logs.specs.Log.{Record, record_of, line_of, after_record, line_size, line_in, record_number, state_of, recorded, recorded_given, record_store, record_line}
@@ -34,24 +35,23 @@ module _ (rx : Receiver) (store : List ℕ) (r : Record) (line : List ℕ) (room
   unfolding record_number first_failed
   number_is = rw (eq-eqb (length store) store_size room, eq-eqb (length line) line_size size)
 
-  module _ (store' line' : List ℕ) (es : store' ≡ record_store rx store r line) (el : line' ≡ record_line rx store r line) (text : List ℕ) (at end : ℕ)
-      (text' : List ℕ) where
+  module _ (store' line' : List ℕ) (es : store' ≡ record_store rx store r line) (el : line' ≡ record_line rx store r line) (w w' : Writer) where
     abbrev Answered : Receiver → Type 0
-    Answered next = (state_of next store' ≡ left_by_record (state_of rx store) r) × AtMost report_room (line_text (line_given (state_of rx store) r)) text at end text'
+    Answered next = (state_of next store' ≡ left_by_record (state_of rx store) r) × AtMost report_room (line_text (line_given (state_of rx store) r)) w w'
 
     module _ (refusal : Refusal) (e : Err refusal ≡ recorded_given (recorded rx store r line)) where
       bad_told : receiver_good rx ≡ false
       unfolding recorded recorded_given
       bad_told = either (receiver_good rx) (λ t. absurd (err_number _ _ refusal (sym e) (rw t at number_is))) (λ t. t)
 
-      pub refused-step : (told : ℕ) → told ≡ refusal_number refusal → AtMost report_room (code_text 0 (told ∷ [])) text at end text' → Answered rx
+      pub refused-step : (told : ℕ) → told ≡ refusal_number refusal → AtMost report_room (code_text 0 (told ∷ [])) w w' → Answered rx
       unfolding recorded recorded_given record_store left_by_record line_given code_text line_text
-      refused-step told is w =
+      refused-step told is p =
           let bad = bad_told in
           let n : record_number rx store line ≡ 1 = rw bad at number_is in
           let number : told ≡ 1 = is ∙ number_err _ _ refusal (omega (arith, n)) (sym e) ∙ n in
           let kept : store' ≡ store = es ∙ rw n in
-          rw bad (ap (state_of rx) kept, subst (λ (k : ℕ). AtMost report_room (code_text 0 (k ∷ [])) text at end text') number w)
+          rw bad (ap (state_of rx) kept, subst (λ (k : ℕ). AtMost report_room (code_text 0 (k ∷ [])) w w') number p)
 
     module _ (next : Receiver) (e : Ok next ≡ recorded_given (recorded rx store r line)) where
       good_told : receiver_good rx ≡ true
@@ -59,15 +59,15 @@ module _ (rx : Receiver) (store : List ℕ) (r : Record) (line : List ℕ) (room
       good_told = let n = ok_zero _ _ next (sym e) in either (receiver_good rx) (λ t. t) (λ t. absurd (omega (arith, n, rw t at number_is)))
 
       pub taken_step : octets_line (line_in (line_of (state_of rx store) r)) ≡ line_text (line_of (state_of rx store) r)
-          → AtMost report_room (octets_line line') text at end text' → Answered next
+          → AtMost report_room (octets_line line') w w' → Answered next
       unfolding recorded recorded_given record_store record_line left_by_record line_given
-      taken_step spelled w =
+      taken_step spelled p =
           let good = good_told in
           let n : record_number rx store line ≡ 0 = rw good at number_is in
           let after : next ≡ (after_record (state_of rx store) r).receiver = sym (ok_same _ _ next (sym e)) ∙ rw n in
           let left : store' ≡ (after_record (state_of rx store) r).store = es ∙ rw n in
           let said : octets_line line' ≡ line_text (line_of (state_of rx store) r) = ap octets_line (el ∙ rw n) ∙ spelled in
-          rw good (ap₂ state_of after left, subst (λ (os : List ℕ). AtMost report_room os text at end text') said w)
+          rw good (ap₂ state_of after left, subst (λ (os : List ℕ). AtMost report_room os w w') said p)
 
       pub store_told : store' ≡ (after_record (state_of rx store) r).store
       unfolding record_store
@@ -95,20 +95,20 @@ left-none : (s : State) → left_by_records s [] ≡ s
 unfolding left_by_records
 left-none s = refl
 
--- i records are answered and their lines stand in front; what is left leads to where the whole leads
-pub record Midway (s : State) (os : List ℕ) (last : Bool) (most : ℕ) (text : List ℕ) (i at : ℕ) (s' : State) (end : ℕ) (text' : List ℕ) : Type 0 where
+-- i records are answered and their lines stand behind the text; what is left leads to where the whole leads
+pub record Midway (s : State) (os : List ℕ) (last : Bool) (most : ℕ) (w : Writer) (i at : ℕ) (s' : State) (w' : Writer) : Type 0 where
   pub done : List ℕ
   pub part : i ≤ most
   pub inside : at ≤ length os
   pub room : length s'.store ≡ store_size
-  pub wrote : Wrote done text 0 end text'
+  pub wrote : Wrote done w w'
   pub few : length done ≤ report_room * i
   pub left : left_by_records s (records last most os) ≡ left_by_records s' (records last (most - i) (drop at os))
   pub lines : text_of s (records last most os) ≡ done ++ text_of s' (records last (most - i) (drop at os))
   pub taken : octets_taken last most os ≡ at + octets_taken last (most - i) (drop at os)
 
-module _ (s : State) (os : List ℕ) (last : Bool) (most : ℕ) (text : List ℕ) where
-  pub midway_start : length s.store ≡ store_size → Midway s os last most text 0 0 s 0 text
+module _ (s : State) (os : List ℕ) (last : Bool) (most : ℕ) (w : Writer) where
+  pub midway_start : length s.store ≡ store_size → Midway s os last most w 0 0 s w
   midway_start h =
       let e : most - 0 ≡ most = omega arith in
       record {
@@ -116,33 +116,30 @@ module _ (s : State) (os : List ℕ) (last : Bool) (most : ℕ) (text : List ℕ
         part = omega arith;
         inside = omega arith;
         room = h;
-        wrote = wrote_none text 0;
+        wrote = wrote_none w;
         few = omega arith;
         left = rw e;
         lines = rw e;
         taken = rw e (sym (zero-add _));
       }
 
-  module _ (i at : ℕ) (s' : State) (end : ℕ) (text' : List ℕ) (m : Midway s os last most text i at s' end text') where
-    pub midway_length : length text' ≡ length text
-    midway_length = ap length m.wrote.1 ∙ length-put text 0 m.done
+  module _ (i at : ℕ) (s' : State) (w' : Writer) (m : Midway s os last most w i at s' w') where
+    module _ (room : HasRoom (report_room * most) w) where
+      pub midway_room : i < most → HasRoom report_room w'
+      midway_room h = omega (arith, m.wrote.end, m.few, ap length m.wrote.text, length-put w.text.now w.end m.done)
 
-    module _ (room : report_room * most ≤ length text) where
-      pub midway_room : i < most → end + report_room ≤ length text'
-      midway_room h = omega (arith, m.wrote.0, m.few, midway_length)
-
-      pub midway_more : (c : Cut) → i < most → Comes os at last c → (s'' : State) (end'' : ℕ) (text'' : List ℕ)
+      pub midway_more : (c : Cut) → i < most → Comes os at last c → (s'' : State) (w'' : Writer)
           → s'' ≡ left_by_record s' (record_of c.kind (take (c.end - c.start) (drop c.start os)))
-          → AtMost report_room (line_text (line_given s' (record_of c.kind (take (c.end - c.start) (drop c.start os))))) text' end end'' text''
-          → length s''.store ≡ store_size → Midway s os last most text (i + 1) c.end s'' end'' text''
-      midway_more c h u s'' end'' text'' left w size =
+          → AtMost report_room (line_text (line_given s' (record_of c.kind (take (c.end - c.start) (drop c.start os))))) w' w''
+          → length s''.store ≡ store_size → Midway s os last most w (i + 1) c.end s'' w''
+      midway_more c h u s'' w'' left p size =
           let r = record_of c.kind (take (c.end - c.start) (drop c.start os)) in
           let k = most - (i + 1) in
           let n : most - i ≡ suc k = omega arith in
           let later = records last k (drop c.end os) in
           let step : records last (most - i) (drop at os) ≡ r ∷ later = ap (λ (j : ℕ). records last j (drop at os)) n ∙ u.first k in
           let line = line_text (line_given s' r) in
-          let long : length line ≤ report_room = omega (arith, w.0.0, w.1) in
+          let long : length line ≤ report_room = omega (arith, p.wrote.end, p.most) in
           let go : at < c.end = u.later in
           let octets : octets_taken last (most - i) (drop at os) ≡ (c.end - at) + octets_taken last k (drop c.end os) =
           ap (λ (j : ℕ). octets_taken last j (drop at os)) n ∙ u.taken k in
@@ -151,7 +148,7 @@ module _ (s : State) (os : List ℕ) (last : Bool) (most : ℕ) (text : List ℕ
             part = omega arith;
             inside = u.within;
             room = size;
-            wrote = behind m.done line text 0 end text' end'' text'' (omega (arith, m.few)) m.wrote w.0;
+            wrote = behind m.done line w w' w'' (omega (arith, m.few)) m.wrote p.wrote;
             few = omega (arith, m.few, length-append m.done line);
             left = m.left ∙ ap (left_by_records s') step ∙ left_cons s' r later ∙ ap (λ (x : State). left_by_records x later) (sym left);
             lines = m.lines ∙ ap (λ (rs : List Record). m.done ++ text_of s' rs) step
@@ -161,16 +158,17 @@ module _ (s : State) (os : List ℕ) (last : Bool) (most : ℕ) (text : List ℕ
           }
 
     -- no more are answered
-    pub midway_end : records last (most - i) (drop at os) ≡ [] → octets_taken last (most - i) (drop at os) ≡ 0
-        → (s' ≡ left_by_records s (records last most os)) × Wrote (text_of s (records last most os)) text 0 end text' × (end ≤ report_room * most)
-        × (at ≡ octets_taken last most os) × (at ≤ length os)
-    midway_end none stay =
+    pub midway_end : records last (most - i) (drop at os) ≡ [] → octets_taken last (most - i) (drop at os) ≡ 0 → (end : ℕ) → end ≡ w'.end
+        → (s' ≡ left_by_records s (records last most os)) × AtMost (report_room * most) (text_of s (records last most os)) w w'
+        × (end ≡ w'.end) × (at ≡ octets_taken last most os) × (at ≤ length os)
+    midway_end none stay end e =
         let all_left : left_by_records s (records last most os) ≡ s' = m.left ∙ ap (left_by_records s') none ∙ left-none s' in
         let whole : text_of s (records last most os) ≡ m.done =
         m.lines ∙ ap (λ (rs : List Record). m.done ++ text_of s' rs) none ∙ ap (λ (x : List ℕ). m.done ++ x) (text_none s') ∙ append-nil m.done in (
           sym all_left,
-          subst (λ (x : List ℕ). Wrote x text 0 end text') (sym whole) m.wrote,
-          omega (arith, m.wrote.0, m.few, m.part),
+          subst (λ (x : List ℕ). AtMost (report_room * most) x w w') (sym whole)
+              (record { wrote = m.wrote; most = omega (arith, m.wrote.end, m.few, m.part) }),
+          e,
           omega (arith, m.taken, stay),
           m.inside,
         )

@@ -9,10 +9,11 @@ use lib.ListN.{length, get_or, take, drop, length-append, take-append-drop, leng
 use lib.Seq.{take_all, take_at, drop_at}
 use Rattle.foundation.proofs.Tests.{either}
 use Rattle.foundation.proofs.Copying.{take_shorter}
-use Rattle.texts.specs.Texts.{decimal, octets_text, blank, line_feed, parts}
-use Rattle.texts.specs.Parts.{AtMost}
+use Rattle.texts.specs.Texts.{decimal, octets_text, blank, line_feed, parts, Writes}
+use Rattle.texts.specs.Parts.{HasRoom, Wrote, AtMost}
+use Rattle.texts.specs.declared.Writer.{Writer}
 use Rattle.texts.proofs.Decimals.{short}
-use Rattle.texts.proofs.Writing.{Put, wrote, Chain, total, chained, length-parts, length-octets}
+use Rattle.texts.proofs.Writing.{wrote, Chain, total, chained, length-parts, length-octets}
 use Rattle.packets.proofs.HeaderBack.{written-length}
 use Rattle.packets.specs.Headers.{width_number}
 use Rattle.messages.proofs.ResponseReading.{length-sack_data}
@@ -50,43 +51,39 @@ module _ (n k : ℕ) (os : List ℕ) (e : k ≡ min n (length os)) where
       take_all (length os - k) (drop k os) (omega (arith, length-drop k os))
       ∙ ap (drop k) (sym (take-append-drop n os)) ∙ drop_at (take n os) (drop n os) k size
 
-module _ (d : List ℕ) (at r : ℕ) (m : List ℕ) (room : at + report_room ≤ length d) where
-  pub word_written : (w : List ℕ) → length w ≤ report_room → Put w d at r m → AtMost report_room w d at r m
-  word_written w few p = let x = wrote w d at r m (omega arith) p in (x, omega (arith, x.0))
+module _ (w w' : Writer) (room : HasRoom report_room w) where
+  pub word_written : (os : List ℕ) → length os ≤ report_room → Writes os w w' → AtMost report_room os w w'
+  word_written os few p =
+      let x : Wrote os w w' = wrote os w w' (omega arith) p in record { wrote = x; most = omega (arith, x.end) }
 
-  parts-written : {ps : List (List ℕ)} → Chain ps d at r m → total ps ≤ report_room → AtMost report_room (parts ps) d at r m
-  parts-written {ps} c few = let x = chained ps d at r m (omega arith) c in (x, omega (arith, x.0, length-parts ps))
+  parts-written : {ps : List (List ℕ)} → Chain ps w w' → total ps ≤ report_room → AtMost report_room (parts ps) w w'
+  parts-written {ps} c few =
+      let x : Wrote (parts ps) w w' = chained ps w w' (omega arith) c in record { wrote = x; most = omega (arith, x.end, length-parts ps) }
 
-  pub refusal_written : (n : ℕ) → n < 256 → Chain (decimal n ∷ line_feed ∷ []) d at r m → AtMost report_room (code_text 0 (n ∷ [])) d at r m
+  pub refusal_written : (n : ℕ) → n < 256 → Chain (decimal n ∷ line_feed ∷ []) w w' → AtMost report_room (code_text 0 (n ∷ [])) w w'
   unfolding code_text
   refusal_written n small c = parts-written c (omega (arith, short 2 n (omega arith)))
 
   module _ (os : List ℕ) (most : length os ≤ 2 * stored_block) where
     pub message-written : Chain ((0x6D ∷ 0x65 ∷ 0x73 ∷ 0x73 ∷ 0x61 ∷ 0x67 ∷ 0x65 ∷ 0x20 ∷ []) ∷ decimal (length os) ∷ blank ∷ octets_text os
-        ∷ line_feed ∷ []) d at r m
-        → AtMost report_room (code_text 5 os) d at r m
+        ∷ line_feed ∷ []) w w'
+        → AtMost report_room (code_text 5 os) w w'
     unfolding code_text
     message-written c = parts-written c (omega (arith, short 3 (length os) (omega arith), length-octets os))
 
     pub response-written : (n : ℕ) → n ≡ min 12 (length os)
         → Chain ((0x72 ∷ 0x65 ∷ 0x73 ∷ 0x70 ∷ 0x6F ∷ 0x6E ∷ 0x73 ∷ 0x65 ∷ 0x20 ∷ []) ∷ octets_text (take n os) ∷ blank
-        ∷ octets_text (take (length os - n) (drop n os)) ∷ line_feed ∷ []) d at r m
-        → AtMost report_room (code_text 6 os) d at r m
+        ∷ octets_text (take (length os - n) (drop n os)) ∷ line_feed ∷ []) w w'
+        → AtMost report_room (code_text 6 os) w w'
     unfolding code_text
     response-written n e c =
         parts-written (rw (front 12 n os e, rest 12 n os e) at c)
         (omega (arith, length-octets (take 12 os), length-take 12 os, length-octets (drop 12 os), length-drop 12 os))
 
-    pub restored-written : Chain ((0x72 ∷ 0x65 ∷ 0x73 ∷ 0x74 ∷ 0x6F ∷ 0x72 ∷ 0x65 ∷ 0x64 ∷ 0x20 ∷ []) ∷ octets_text os ∷ line_feed ∷ []) d at r m
-        → AtMost report_room (code_text 7 os) d at r m
+    pub restored-written : Chain ((0x72 ∷ 0x65 ∷ 0x73 ∷ 0x74 ∷ 0x6F ∷ 0x72 ∷ 0x65 ∷ 0x64 ∷ 0x20 ∷ []) ∷ octets_text os ∷ line_feed ∷ []) w w'
+        → AtMost report_room (code_text 7 os) w w'
     unfolding code_text
     restored-written c = parts-written c (omega (arith, length-octets os))
-
--- what is written for a refusal, by the contents of its line
-pub refusal_contents : (d : List ℕ) (at r : ℕ) (m os : List ℕ) (n : ℕ) → n ≡ get_or os 0 0 → AtMost report_room (code_text 0 (n ∷ [])) d at r m
-    → AtMost report_room (code_text 0 os) d at r m
-unfolding code_text
-refusal_contents d at r m os n e w = subst (λ (j : ℕ). AtMost report_room (code_text 0 (j ∷ [])) d at r m) e w
 
 -- the text is by the code of a number, whatever the number
 pub text_by_code : (n : ℕ) (os : List ℕ) → code_text (code_number (code_at n)) os ≡ code_text n os
@@ -101,13 +98,14 @@ text_by_code n os =
     (λ f. either (eqb n 6) (λ g. rw (a, b, c, d, e, f, g) refl) (λ g. rw (a, b, c, d, e, f, g) refl)))))))
 
 -- by the line in octets
-pub octets-written : (d : List ℕ) (at r : ℕ) (m line : List ℕ) (n : ℕ) (code : Code)
+pub octets-written : (w w' : Writer) (line : List ℕ) (n : ℕ) (code : Code)
     → n ≡ min (256 * get_or line 1 0 + get_or line 2 0) (2 * stored_block) → code ≡ code_at (get_or line 0 0)
-    → AtMost report_room (code_text (code_number code) (take (3 + n - 3) (drop 3 line))) d at r m → AtMost report_room (octets_line line) d at r m
+    → AtMost report_room (code_text (code_number code) (take (3 + n - 3) (drop 3 line))) w w' → AtMost report_room (octets_line line) w w'
 unfolding octets_line contents_in
-octets-written d at r m line n code e f w =
+octets-written w w' line n code e f p =
     let k : 3 + n - 3 ≡ min (256 * get_or line 1 0 + get_or line 2 0) (2 * stored_block) = omega arith in
-    subst (λ (j : ℕ). AtMost report_room (code_text (get_or line 0 0) (take j (drop 3 line))) d at r m) k (rw (f, text_by_code (get_or line 0 0) (take (3 + n - 3) (drop 3 line))) at w)
+    subst (λ (j : ℕ). AtMost report_room (code_text (get_or line 0 0) (take j (drop 3 line))) w w') k
+    (rw (f, text_by_code (get_or line 0 0) (take (3 + n - 3) (drop 3 line))) at p)
 
 -- ---- the text of a line's octets
 

@@ -6,7 +6,7 @@ ghost use Rattle.addresses.specs.Octets.{address_at};
 ghost use Rattle.foundation.specs.Order.{all};
 ghost use Rattle.receiver_state.specs.Receiver.{store_size, fresh_for};
 ghost use Rattle.stored.specs.Stored.{stored_block};
-ghost use Rattle.texts.specs.Parts.{Wrote, AtMost};
+ghost use Rattle.texts.specs.Parts.{HasRoom, AtMost};
 ghost use Rattle.logs.specs.Numbers.{code_number};
 ghost use Rattle.logs.specs.Log.{record_of, line_size, state_of};
 ghost use Rattle.replays.specs.Log.{records, octets_taken};
@@ -19,6 +19,7 @@ use foundation::refusal::Refusal;
 use logs::numbers::{Code, Kind};
 use logs::recording::LINE;
 use receiver_state::{Receiver, STORE};
+use texts::Writer;
 
 // The kind that no record has, for one that is cut short.
 const NONE: u8 = Kind::Other as u8;
@@ -49,77 +50,77 @@ pub fn start(own: &[u8]) -> Receiver
     receiver_state::idle(addresses::address_at(own, 0))
 }
 
-// ---- text: each function writes at a place that has room, and says where it ends
+// ---- text: each function writes behind a text that has room for a line
 
 // A refusal: its number.
-fn put_refusal(text: &mut [u8], at: usize, number: u8) -> usize
-    requires { at + report_room ≤ length text.old }
-    ensures { AtMost report_room (code_text 0 (number ∷ [])) text.old at result text.new }
+fn put_refusal(out: &mut Writer, number: u8)
+    requires { HasRoom report_room out.old }
+    ensures { AtMost report_room (code_text 0 (number ∷ [])) out.old out.new }
 {
-    let end = texts::put_decimal(text, at, number as u64);
-    texts::put_word(text, end, b"\n")
+    out.decimal(number as u64);
+    out.word(b"\n");
 }
 
 // A message: its length and octets.
-fn put_message(text: &mut [u8], at: usize, message: &[u8]) -> usize
-    requires { (at + report_room ≤ length text.old) × (length message.now ≤ 2 * stored_block) }
-    ensures { AtMost report_room (code_text 5 message.now) text.old at result text.new }
+fn put_message(out: &mut Writer, message: &[u8])
+    requires { HasRoom report_room out.old × (length message.now ≤ 2 * stored_block) }
+    ensures { AtMost report_room (code_text 5 message.now) out.old out.new }
 {
-    let size = message.len();
-    let first = texts::put_word(text, at, b"message ");
-    let second = texts::put_decimal(text, first, size as u64);
-    let third = texts::put_word(text, second, b" ");
-    let fourth = texts::put_octets(text, third, message);
-    texts::put_word(text, fourth, b"\n")
+    out.word(b"message ");
+    out.decimal(message.len() as u64);
+    out.word(b" ");
+    out.octets(message);
+    out.word(b"\n");
 }
 
 // A response: its header and its data block.
-fn put_response(text: &mut [u8], at: usize, octets: &[u8]) -> usize
-    requires { (at + report_room ≤ length text.old) × (length octets.now ≤ 2 * stored_block) }
-    ensures { AtMost report_room (code_text 6 octets.now) text.old at result text.new }
+fn put_response(out: &mut Writer, octets: &[u8])
+    requires { HasRoom report_room out.old × (length octets.now ≤ 2 * stored_block) }
+    ensures { AtMost report_room (code_text 6 octets.now) out.old out.new }
 {
     let header = foundation::octets::shorter(HEADER, octets.len());
-    let first = texts::put_word(text, at, b"response ");
-    let second = texts::put_octets(text, first, &octets[..header]);
-    let third = texts::put_word(text, second, b" ");
-    let fourth = texts::put_octets(text, third, &octets[header..]);
-    texts::put_word(text, fourth, b"\n")
+    out.word(b"response ");
+    out.octets(&octets[..header]);
+    out.word(b" ");
+    out.octets(&octets[header..]);
+    out.word(b"\n");
 }
 
 // A restart: the stored form.
-fn put_restored(text: &mut [u8], at: usize, form: &[u8]) -> usize
-    requires { (at + report_room ≤ length text.old) × (length form.now ≤ 2 * stored_block) }
-    ensures { AtMost report_room (code_text 7 form.now) text.old at result text.new }
+fn put_restored(out: &mut Writer, form: &[u8])
+    requires { HasRoom report_room out.old × (length form.now ≤ 2 * stored_block) }
+    ensures { AtMost report_room (code_text 7 form.now) out.old out.new }
 {
-    let first = texts::put_word(text, at, b"restored ");
-    let second = texts::put_octets(text, first, form);
-    texts::put_word(text, second, b"\n")
+    out.word(b"restored ");
+    out.octets(form);
+    out.word(b"\n");
 }
 
 // The text of a line by its code and contents.
-fn put_contents(text: &mut [u8], at: usize, code: Code, contents: &[u8]) -> usize
-    requires { (at + report_room ≤ length text.old) × (length contents.now ≤ 2 * stored_block) }
-    ensures { AtMost report_room (code_text (code_number code) contents.now) text.old at result text.new }
+#[tactic(auto, unfolding(logs::specs::Numbers::code_number, crate::specs::Parts::code_text, crate::specs::Text::line_text))]
+fn put_contents(out: &mut Writer, code: Code, contents: &[u8])
+    requires { HasRoom report_room out.old × (length contents.now ≤ 2 * stored_block) }
+    ensures { AtMost report_room (code_text (code_number code) contents.now) out.old out.new }
 {
     match code {
-        Code::Refused => put_refusal(text, at, foundation::octets::at(contents, 0)),
-        Code::Opened => texts::put_word(text, at, b"opened\n"),
-        Code::Repeat => texts::put_word(text, at, b"repeat\n"),
-        Code::Stored => texts::put_word(text, at, b"stored\n"),
-        Code::Bad => texts::put_word(text, at, b"bad\n"),
-        Code::Message => put_message(text, at, contents),
-        Code::Response => put_response(text, at, contents),
-        Code::Restored => put_restored(text, at, contents),
+        Code::Refused => put_refusal(out, foundation::octets::at(contents, 0)),
+        Code::Opened => out.word(b"opened\n"),
+        Code::Repeat => out.word(b"repeat\n"),
+        Code::Stored => out.word(b"stored\n"),
+        Code::Bad => out.word(b"bad\n"),
+        Code::Message => put_message(out, contents),
+        Code::Response => put_response(out, contents),
+        Code::Restored => put_restored(out, contents),
     }
 }
 
 // The text of a line in octets: code, length of the contents, contents.
-fn put_line(text: &mut [u8], at: usize, line: &[u8]) -> usize
-    requires { (at + report_room ≤ length text.old) × (length line.now ≡ line_size) }
-    ensures { AtMost report_room (octets_line line.now) text.old at result text.new }
+fn put_line(out: &mut Writer, line: &[u8])
+    requires { HasRoom report_room out.old × (length line.now ≡ line_size) }
+    ensures { AtMost report_room (octets_line line.now) out.old out.new }
 {
     let size = foundation::octets::shorter(256 * (line[1] as usize) + line[2] as usize, CONTENTS);
-    put_contents(text, at, Code::from(line[0]), &line[FIRST..FIRST + size])
+    put_contents(out, Code::from(line[0]), &line[FIRST..FIRST + size]);
 }
 
 // ---- records
@@ -168,74 +169,53 @@ fn cut_at(octets: &[u8], at: usize, last: bool) -> Option<Cut>
     })
 }
 
-// The receiver after a record, and where its line ends.
-#[derive(Clone, Copy)]
-pub struct LineEnd {
-    pub receiver: Receiver,
-    pub end: usize,
-}
-
-// A record of this kind and these octets, and its line at a place of the text. A receiver that there can't be refuses it with 1.
-fn answer(
-    rx: Receiver,
-    store: &mut [u8],
-    kind: u8,
-    octets: &[u8],
-    text: &mut [u8],
-    at: usize,
-) -> LineEnd
-    requires { (at + report_room ≤ length text.old) × (length store.old ≡ store_size) }
-    ensures { (state_of result.receiver store.new ≡ left_by_record (state_of rx store.old) (record_of kind octets.now))
-        × AtMost report_room (line_text (line_given (state_of rx store.old) (record_of kind octets.now))) text.old at result.end text.new }
+// The receiver after a record of this kind and these octets, and its line behind the text. A receiver that there can't be refuses it with 1.
+fn answer(rx: Receiver, store: &mut [u8], kind: u8, octets: &[u8], out: &mut Writer) -> Receiver
+    requires { HasRoom report_room out.old × (length store.old ≡ store_size) }
+    ensures { (state_of result store.new ≡ left_by_record (state_of rx store.old) (record_of kind octets.now))
+        × AtMost report_room (line_text (line_given (state_of rx store.old) (record_of kind octets.now))) out.old out.new }
 {
     let mut line = [0u8; LINE];
     match logs::recording::record(rx, store, kind, octets, &mut line) {
-        Ok(receiver) => LineEnd {
-            receiver,
-            end: put_line(text, at, &line),
-        },
-        Err(refusal) => LineEnd {
-            receiver: rx,
-            end: put_refusal(text, at, refusal.number()),
-        },
+        Ok(receiver) => {
+            put_line(out, &line);
+            receiver
+        }
+        Err(refusal) => {
+            put_refusal(out, refusal.number());
+            rx
+        }
     }
 }
 
-// The first records of the octets that have come, at most so many, and their lines at the start of the text.
+// The first records of the octets that have come, at most so many, and their lines behind the text.
 fn answer_all(
     rx: Receiver,
     store: &mut [u8],
     octets: &[u8],
     last: bool,
     most: usize,
-    text: &mut [u8],
+    out: &mut Writer,
 ) -> Replayed
-    requires { (length store.old ≡ store_size) × (report_room * most ≤ length text.old) }
+    requires { (length store.old ≡ store_size) × HasRoom (report_room * most) out.old }
     ensures { (state_of result.receiver store.new ≡ left_by_records (state_of rx store.old) (records last most octets.now))
-        × Wrote (report_text (lines_given (state_of rx store.old) (records last most octets.now))) text.old 0 result.end text.new
-        × (result.end ≤ report_room * most) × (result.taken ≡ octets_taken last most octets.now) × (result.taken ≤ length octets.now) }
+        × AtMost (report_room * most) (report_text (lines_given (state_of rx store.old) (records last most octets.now))) out.old out.new
+        × (result.end ≡ out.new.end) × (result.taken ≡ octets_taken last most octets.now) × (result.taken ≤ length octets.now) }
 {
     let mut now = Replayed {
         receiver: rx,
         taken: 0,
-        end: 0,
+        end: out.end,
     };
     for i in 0..most {
         let Some(c) = cut_at(octets, now.taken, last) else {
             return now;
         };
-        let told = answer(
-            now.receiver,
-            store,
-            c.kind,
-            &octets[c.start..c.end],
-            text,
-            now.end,
-        );
+        let receiver = answer(now.receiver, store, c.kind, &octets[c.start..c.end], out);
         now = Replayed {
-            receiver: told.receiver,
+            receiver,
             taken: c.end,
-            end: told.end,
+            end: out.end,
         };
     }
     now
@@ -259,5 +239,6 @@ pub fn replay(
     if store.len() != STORE || room < ROOM {
         return Err(Refusal::Size);
     }
-    Ok(answer_all(rx, store, octets, last, room / ROOM, text))
+    let mut out = Writer::new(text);
+    Ok(answer_all(rx, store, octets, last, room / ROOM, &mut out))
 }

@@ -3,7 +3,7 @@
 use mathlib.Core.Path.{◌≡◌, refl, sym, ap, ap₂, subst, ◌∙◌}
 use mathlib.Core.Logic.{◌≢◌}
 use mathlib.Core.List.{List, [], ◌∷◌, ◌++◌, append-nil, append_assoc}
-use Prim.Native.Nat.{ℕ, ◌+◌, ◌*◌, ◌/◌, ◌%◌, ◌≤◌, ◌<◌}
+use Prim.Native.Nat.{ℕ, ◌+◌, ◌-◌, ◌*◌, ◌/◌, ◌%◌, ◌≤◌, ◌<◌}
 use native.Mathlib.Nat.{add-zero}
 use native.Mathlib.Numerals.{add-one}
 use native.Mathlib.Omega.{arith}
@@ -15,8 +15,9 @@ use Rattle.io.specs.Digits.{last_digits, hex_digit_ascii}
 use Rattle.foundation.specs.Octets.{over, put}
 use Rattle.foundation.proofs.Copying.{Grown, grown, put_fits, put_not, length-put}
 use Rattle.foundation.proofs.Tests.{either}
-use Rattle.texts.specs.Texts.{hexadecimal, octets_text, parts, end_at}
+use Rattle.texts.specs.Texts.{hexadecimal, octets_text, parts, end_at, Writes}
 use Rattle.texts.specs.Parts.{Wrote}
+use Rattle.texts.specs.declared.Writer.{Writer}
 
 -- ---- where a text ends
 
@@ -32,6 +33,15 @@ module _ (d : List ℕ) (at : ℕ) (os : List ℕ) where
   pub end_within : at ≤ length d → end_at d at os ≤ length d
   unfolding end_at
   end_within h = either (leb (at + length os) (length d)) (λ t. rw t (leb-true (at + length os) (length d) t)) (λ t. rw t h)
+
+  -- by the octets that have room
+  pub end_of_room : length os ≤ length d - at → at + length os ≡ end_at d at os
+  unfolding end_at
+  end_of_room h =
+      either (leb (at + length os) (length d)) (λ t. rw t) (λ t. rw t (omega (arith, leb-false (at + length os) (length d) t)))
+
+  pub no_room : length d - at < length os → (d ≡ put d at os) × (at ≡ end_at d at os)
+  no_room h = (put_not d at os (omega arith), end_outside (omega arith))
 
 -- ---- one part behind the other
 
@@ -51,48 +61,50 @@ put-put d a b at h =
     ∙ ap₂ (λ (x : List ℕ) (k : ℕ). x ++ drop k d) (append_assoc (take at d) a b) lpb
     ∙ sym (put_fits d at (a ++ b) (omega (arith, lab)))
 
--- what each function of this crate gives, whether there is room or not
-abbrev pub Put : List ℕ → List ℕ → ℕ → ℕ → List ℕ → Type 0
-Put os d at r m = (r ≡ end_at d at os) × (m ≡ put d at os)
+pub wrote : (os : List ℕ) (w w' : Writer) → w.end + length os ≤ length w.text.now → Writes os w w' → Wrote os w w'
+wrote os w w' h p = record { same_memory = p.same_memory; text = p.text; end = p.end ∙ sym (end_inside w.text.now w.end os h) }
 
-pub wrote : (os d : List ℕ) (at r : ℕ) (m : List ℕ) → at + length os ≤ length d → Put os d at r m → Wrote os d at r m
-wrote os d at r m h w = (w.0 ∙ sym (end_inside d at os h), w.1)
+pub as_writes : (os : List ℕ) (w w' : Writer) → w.end + length os ≤ length w.text.now → Wrote os w w' → Writes os w w'
+as_writes os w w' h p = record { same_memory = p.same_memory; text = p.text; end = p.end ∙ end_inside w.text.now w.end os h }
 
 -- nothing is written
-put-none : (d : List ℕ) (at : ℕ) → d ≡ put d at []
+pub put-none : (d : List ℕ) (at : ℕ) → d ≡ put d at []
 unfolding over
 put-none d at =
     either (leb (at + 0) (length d))
     (λ t. sym (put_fits d at [] (leb-true (at + 0) (length d) t) ∙ rw (append-nil (take at d), add-zero at) (take-append-drop at d)))
     (λ t. put_not d at [] (leb-false (at + 0) (length d) t))
 
-pub wrote_none : (d : List ℕ) (at : ℕ) → Wrote [] d at at d
-wrote_none d at = (omega arith, put-none d at)
-
-pub as_put : (os d : List ℕ) (at r : ℕ) (m : List ℕ) → at + length os ≤ length d → Wrote os d at r m → Put os d at r m
-as_put os d at r m h w = (w.0 ∙ end_inside d at os h, w.1)
+pub wrote_none : (w : Writer) → Wrote [] w w
+wrote_none w = record { same_memory = refl; text = put-none w.text.now w.end; end = omega arith }
 
 -- what is written in front
-pub wrote_front : (os d : List ℕ) (r : ℕ) (m : List ℕ) → length os ≤ length d → Wrote os d 0 r m → take r m ≡ os
+pub put_front : (os d m : List ℕ) (r : ℕ) → length os ≤ length d → r ≡ length os → m ≡ put d 0 os → take r m ≡ os
 unfolding over
-wrote_front os d r m h w =
-    let e : length os ≡ r = omega (arith, w.0) in
-    ap (take r) (w.1 ∙ put_fits d 0 os (omega arith)) ∙ take_at os (drop (0 + length os) d) r e
+put_front os d m r h e w = ap (take r) (w ∙ put_fits d 0 os (omega arith)) ∙ take_at os (drop (0 + length os) d) r (sym e)
+
+pub wrote_front : (os d : List ℕ) (w w' : Writer) → w.text.now ≡ d → w.end ≡ 0 → Wrote os w w' → (w'.text.now ≡ put d 0 os) × (w'.end ≡ length os)
+wrote_front os d w w' e z p = (p.text ∙ ap₂ (λ (x : List ℕ) (k : ℕ). put x k os) e z, omega (arith, p.end, z))
+
+pub writes_front : (os d : List ℕ) (w w' : Writer) → w.text.now ≡ d → w.end ≡ 0 → Writes os w w' → (w'.end ≡ end_at d 0 os) × (w'.text.now ≡ put d 0 os)
+writes_front os d w w' e z p =
+    (p.end ∙ ap₂ (λ (x : List ℕ) (k : ℕ). end_at x k os) e z, p.text ∙ ap₂ (λ (x : List ℕ) (k : ℕ). put x k os) e z)
+
+pub taken_front : (os : List ℕ) (w w' : Writer) → w.end ≡ 0 → length os ≤ length w.text.now → Wrote os w w' → take w'.end w'.text.now ≡ os
+taken_front os w w' z h p = let f = wrote_front os w.text.now w w' refl z p in put_front os w.text.now w'.text.now w'.end h f.1 f.0
 
 -- a part and what is written behind it
-pub behind : (a b d : List ℕ) (at r : ℕ) (m : List ℕ) (r' : ℕ) (m' : List ℕ) → at + (length a + length b) ≤ length d → Wrote a d at r m
-    → Wrote b m r r' m' → Wrote (a ++ b) d at r' m'
-behind a b d at r m r' m' h w p =
-    let e : r ≡ at + length a = w.0 in (
-      p.0 ∙ omega (arith, length-append a b),
-      p.1 ∙ ap₂ (λ (x : List ℕ) (k : ℕ). put x k b) w.1 e ∙ put-put d a b at h,
-    )
+pub behind : (a b : List ℕ) (w m w' : Writer) → w.end + (length a + length b) ≤ length w.text.now → Wrote a w m → Wrote b m w' → Wrote (a ++ b) w w'
+behind a b w m w' h p q = record {
+  same_memory = q.same_memory ∙ p.same_memory;
+  text = q.text ∙ ap₂ (λ (x : List ℕ) (k : ℕ). put x k b) p.text p.end ∙ put-put w.text.now a b w.end h;
+  end = q.end ∙ omega (arith, p.end, length-append a b);
+}
 
--- parts written one behind the other, each at the end of the one before
-pub data Chain : List (List ℕ) → List ℕ → ℕ → ℕ → List ℕ → Type 0 where
-  done : (d : List ℕ) (at : ℕ) → Chain [] d at at d
-  more : (p : List ℕ) (ps : List (List ℕ)) (d : List ℕ) (at r : ℕ) (m : List ℕ) (r' : ℕ) (m' : List ℕ) → Put p d at r m → Chain ps m r r' m'
-      → Chain (p ∷ ps) d at r' m'
+-- parts written one behind the other
+pub data Chain : List (List ℕ) → Writer → Writer → Type 0 where
+  done : (w : Writer) → Chain [] w w
+  more : (p : List ℕ) (ps : List (List ℕ)) (w m w' : Writer) → Writes p w m → Chain ps m w' → Chain (p ∷ ps) w w'
 
 -- the octets of parts
 abbrev pub total : List (List ℕ) → ℕ
@@ -104,13 +116,13 @@ unfolding parts
 length-parts [] = refl
 length-parts (p ∷ ps) = length-append p (parts ps) ∙ omega (arith, length-parts ps)
 
-pub chained : (ps : List (List ℕ)) (d : List ℕ) (at r : ℕ) (m : List ℕ) → at + total ps ≤ length d → Chain ps d at r m → Wrote (parts ps) d at r m
+pub chained : (ps : List (List ℕ)) (w w' : Writer) → w.end + total ps ≤ length w.text.now → Chain ps w w' → Wrote (parts ps) w w'
 unfolding parts
-chained [] _ _ _ _ h (done d at) = wrote_none d at
-chained (p ∷ ps) _ _ _ _ h (more _ _ d at r m r' m' w c) =
-    let first : Wrote p d at r m = wrote p d at r m (omega arith) w in
-    let lm : length m ≡ length d = ap length first.1 ∙ length-put d at p in
-    behind p (parts ps) d at r m r' m' (omega (arith, length-parts ps)) first (chained ps m r r' m' (omega (arith, first.0)) c)
+chained [] _ _ h (done w) = wrote_none w
+chained (p ∷ ps) _ _ h (more _ _ w m w' f c) =
+    let first : Wrote p w m = wrote p w m (omega arith) f in
+    let size : length m.text.now ≡ length w.text.now = ap length first.text ∙ length-put w.text.now w.end p in
+    behind p (parts ps) w m w' (omega (arith, length-parts ps)) first (chained ps m w' (omega (arith, first.end)) c)
 
 -- ---- two digits an octet
 
@@ -138,19 +150,18 @@ module _ (os : List ℕ) where
       either (eqb (length os) 0) (λ t. omega (arith, ap length (octets-none (eqb-true (length os) 0 t))))
       (λ t. omega (arith, ap length (octets_some (eqb-false (length os) 0 t)), length_hex os))
 
-  -- what is written, and where it ends
+  -- what is written of them where they have room, and where they have none
   module _ (d : List ℕ) (at : ℕ) (some : length os ≢ 0) where
-    pub octets_outside : length d < at + 2 * length os → (at ≡ end_at d at (octets_text os)) × (d ≡ put d at (octets_text os))
+    pub octets_inside : 2 * length os ≤ length d - at → (m : List ℕ) → m ≡ put d at (hexadecimal os)
+        → (m ≡ put d at (octets_text os)) × (at + 2 * length os ≡ end_at d at (octets_text os))
+    octets_inside h m e =
+        let l : length (octets_text os) ≡ 2 * length os = ap length (sym (octets_some some)) ∙ length_hex os in
+        (e ∙ ap (put d at) (octets_some some), omega (arith, end_of_room d at (octets_text os) (omega arith)))
+
+    pub octets_outside : length d - at < 2 * length os → (d ≡ put d at (octets_text os)) × (at ≡ end_at d at (octets_text os))
     octets_outside h =
         let l : length (octets_text os) ≡ 2 * length os = ap length (sym (octets_some some)) ∙ length_hex os in
-        (end_outside d at (octets_text os) (omega arith), put_not d at (octets_text os) (omega arith))
-
-    pub octets-inside : at + 2 * length os ≤ length d → (m : List ℕ) → m ≡ put d at (hexadecimal os)
-        → (at + 2 * length os ≡ end_at d at (octets_text os)) × (m ≡ put d at (octets_text os))
-    octets-inside h m e =
-        let l : length (octets_text os) ≡ 2 * length os = ap length (sym (octets_some some)) ∙ length_hex os in
-        let end : at + 2 * length os ≡ at + length (octets_text os) = omega arith in
-        (end ∙ end_inside d at (octets_text os) (omega arith), e ∙ ap (put d at) (octets_some some))
+        no_room d at (octets_text os) (omega arith)
 
 grown_set : (p d m : List ℕ) (x k : ℕ) → length p ≡ k → k < length d → length m ≡ length d → Grown p d m → Grown (p ++ (x ∷ [])) d (set m k x)
 unfolding over

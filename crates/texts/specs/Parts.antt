@@ -1,12 +1,20 @@
--- What private functions of this crate and of those that write lines promise: nothing that a reader has to believe.
+-- What private functions of the crates that write lines require and promise: nothing that a reader has to believe.
 -- Assumes nothing.
 use Rattle.std.specs.Prelude.{◌≡◌, List, ℕ, ◌+◌, ◌≤◌, length}
 use Rattle.foundation.specs.Octets.{put}
+use Rattle.texts.specs.declared.Writer.{Writer}
 
--- what is written where there is room: a text stands in d at a place, up to r
-abbrev pub Wrote : List ℕ → List ℕ → ℕ → ℕ → List ℕ → Type 0
-Wrote os d at r m = (r ≡ at + length os) × (m ≡ put d at os)
+-- k octets more have room
+abbrev pub HasRoom : ℕ → Writer → Type 0
+HasRoom k w = w.end + k ≤ length w.text.now
+
+-- what is written where there is room
+pub record Wrote (os : List ℕ) (w w' : Writer) : Type 0 where
+  pub same_memory : w'.text.ghost_name ≡ w.text.ghost_name
+  pub text : w'.text.now ≡ put w.text.now w.end os
+  pub end : w'.end ≡ w.end + length os
 
 -- and that it takes no more than k octets
-abbrev pub AtMost : ℕ → List ℕ → List ℕ → ℕ → ℕ → List ℕ → Type 0
-AtMost k os d at r m = Wrote os d at r m × (r ≤ at + k)
+pub record AtMost (k : ℕ) (os : List ℕ) (w w' : Writer) : Type 0 where
+  pub wrote : Wrote os w w'
+  pub most : w'.end ≤ w.end + k

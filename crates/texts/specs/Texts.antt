@@ -1,7 +1,9 @@
 -- Text in octets (ASCII): numbers in decimal, octets in hexadecimal, and where a text ends that is written at a place.
 -- Assumes nothing.
-use Rattle.std.specs.Prelude.{cond, List, [], ◌∷◌, ◌++◌, ℕ, zero, suc, ◌+◌, ◌/◌, eqb, leb, ltb, length}
+use Rattle.std.specs.Prelude.{◌≡◌, cond, List, [], ◌∷◌, ◌++◌, ℕ, zero, suc, ◌+◌, ◌/◌, eqb, leb, ltb, length}
+use Rattle.foundation.specs.Octets.{put}
 use Rattle.io.specs.Digits.{last_digits}
+use Rattle.texts.specs.declared.Writer.{Writer}
 
 -- how many digits a number has in decimal, at most k + 1
 unfoldable pub places : ℕ → ℕ → ℕ
@@ -36,3 +38,9 @@ parts (p ∷ ps) = p ++ parts ps
 -- where a text ends that is written at a place; where it begins if there is no room
 unfoldable pub end_at : List ℕ → ℕ → List ℕ → ℕ
 end_at text at os = cond (leb (at + length os) (length text)) (at + length os) at
+
+-- a part is written behind a text, in the same memory: where there is no room nothing is written, and the text ends where it did
+pub record Writes (os : List ℕ) (w w' : Writer) : Type 0 where
+  pub same_memory : w'.text.ghost_name ≡ w.text.ghost_name
+  pub text : w'.text.now ≡ put w.text.now w.end os
+  pub end : w'.end ≡ end_at w.text.now w.end os

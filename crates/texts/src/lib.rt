@@ -1,34 +1,68 @@
-// Text in lent memory: each function writes at a place and says where it ends. Where there is no room nothing is written, and it ends where
-// it begins.
+// Text in lent memory, written part behind part. Where a part has no room nothing of it is written.
 #![tactic(auto)]
 
-ghost use Rattle.std.specs.Prelude.{◌≡◌, ◌+◌, ◌*◌, ◌≤◌, ◌<◌, length};
+ghost use Rattle.std.specs.Prelude.{◌≡◌, ◌+◌, ◌-◌, ◌*◌, ◌≤◌, ◌<◌, length};
 ghost use Rattle.io.specs.Digits.{hex_digit_ascii};
 ghost use Rattle.foundation.specs.Octets.{put};
-ghost use Rattle.texts.specs.Texts.{decimal, hexadecimal, octets_text, end_at};
+ghost use Rattle.texts.specs.Texts.{decimal, hexadecimal, octets_text, Writes};
 
 // The most digits of a number of 64 bits.
 const DIGITS: usize = 20;
 
-// Octets as they are.
-pub fn put_word(text: &mut [u8], at: usize, word: &[u8]) -> usize
-    ensures { (result ≡ end_at text.old at word.now) × (text.new ≡ put text.old at word.now) }
-{
-    foundation::octets::put(text, at, word);
-    if at <= text.len() && word.len() <= text.len() - at {
-        at + word.len()
-    } else {
-        at
-    }
+// Lent memory, and where the text in it ends.
+#[derive(Drop)]
+pub struct Writer<'a> {
+    pub text: &'a mut [u8],
+    pub end: usize,
 }
 
-// A number in decimal.
-pub fn put_decimal(text: &mut [u8], at: usize, n: u64) -> usize
-    ensures { (result ≡ end_at text.old at (decimal n)) × (text.new ≡ put text.old at (decimal n)) }
-{
-    let mut digits = [0u8; DIGITS];
-    let k = io::decimal(n, &mut digits);
-    put_word(text, at, &digits[..k])
+impl<'a> Writer<'a> {
+    // No text yet, at the start of the memory.
+    pub fn new(text: &'a mut [u8]) -> Writer<'a>
+        ensures { (result.text.ghost_name ≡ text.entry.ghost_name) × (result.text.now ≡ text.old) × (result.end ≡ 0) }
+    {
+        Writer { text, end: 0 }
+    }
+
+    // Octets as they are.
+    pub fn word(&mut self, word: &[u8])
+        ensures { Writes word.now self.old self.new }
+    {
+        if word.len() <= self.room() {
+            foundation::octets::put(self.text, self.end, word);
+            self.end += word.len();
+        }
+    }
+
+    // A number in decimal.
+    pub fn decimal(&mut self, n: u64)
+        ensures { Writes (decimal n) self.old self.new }
+    {
+        let mut digits = [0u8; DIGITS];
+        let k = io::decimal(n, &mut digits);
+        self.word(&digits[..k])
+    }
+
+    // Octets in hexadecimal, `-` for none.
+    pub fn octets(&mut self, octets: &[u8])
+        ensures { Writes (octets_text octets.now) self.old self.new }
+    {
+        if octets.is_empty() {
+            return self.word(b"-");
+        }
+        let size = 2 * octets.len();
+        if size <= self.room() {
+            put_digits(self.text, self.end, octets);
+            self.end += size;
+        }
+    }
+
+    // How many octets more the memory has room for.
+    fn room(&self) -> usize
+        ensures { result ≡ length self.now.text.now - self.now.end }
+    {
+        self.text.len().saturating_sub(self.end)
+    }
 }
 
 // A hexadecimal digit.
@@ -48,19 +82,4 @@ fn put_digits(text: &mut [u8], at: usize, octets: &[u8])
         text[at + 2 * i] = digit(octet / 16);
         text[at + 2 * i + 1] = digit(octet % 16);
     }
-}
-
-// Octets in hexadecimal, `-` for none.
-pub fn put_octets(text: &mut [u8], at: usize, octets: &[u8]) -> usize
-    ensures { (result ≡ end_at text.old at (octets_text octets.now))
-        × (text.new ≡ put text.old at (octets_text octets.now)) }
-{
-    if octets.is_empty() {
-        return put_word(text, at, b"-");
-    }
-    if text.len() / 2 < octets.len() || text.len() - 2 * octets.len() < at {
-        return at;
-    }
-    put_digits(text, at, octets);
-    at + 2 * octets.len()
 }

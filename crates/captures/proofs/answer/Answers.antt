@@ -8,4 +8,4 @@ pub returns : goal.returns
 returns c =
     let a = c.args in
     let o = c.on_datagram-step.ensures in
-    answered-step a.listing a.g a.store.now a.datagram.now a.text.now a.at (step_told c.on_datagram-step.result) _ _ _ _ o.0 o.1 c.counted.ensures.0 c.put_line-end.ensures
+    answered-step a.listing a.g a.store.now a.datagram.now (step_told c.on_datagram-step.result) _ _ _ _ o.0 o.1 c.counted.ensures.counts c.put_line.ensures

@@ -4,4 +4,4 @@ use Rattle.captures.proofs.Runs.{Midway}
 use Rattle.captures.proofs.answer_all.Given as goal
 
 abbrev pub invariant-loop-i : goal.invariant-loop-i
-invariant-loop-i l = Midway l.listing l.fn.g l.initial.store l.octets l.initial.text l.count l.i l.now.gateway l.store l.now.end l.text
+invariant-loop-i l = Midway l.listing l.fn.g l.initial.store l.octets l.count l.initial.out l.i l.now l.store l.out

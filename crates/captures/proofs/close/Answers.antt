@@ -1,10 +1,13 @@
 -- `captures::close` meets its contract.
 -- Assumes nothing.
-use Rattle.captures.proofs.Lines.{numbers_closed, deliveries_closed}
+use mathlib.Core.List.{[]}
+use native.Mathlib.Omega.{arith}
+use Rattle.texts.proofs.Writing.{end_inside, put-none}
+use Rattle.captures.specs.Lines.{closing}
 use Rattle.captures.proofs.close.Goals as goal
 
-pub returns-in-Numbers : goal.returns-in-Numbers
-returns-in-Numbers c = numbers_closed c.args.listing c.args.c c.args.text.now _ _ c.in-Numbers.is c.close_numbers.ensures
-
 pub returns-in-Deliveries : goal.returns-in-Deliveries
-returns-in-Deliveries c = deliveries_closed c.args.listing c.args.c c.args.text.now c.in-Deliveries.is
+unfolding closing
+returns-in-Deliveries c =
+    let d = c.args.text.now in
+    rw c.in-Deliveries.is (end_inside d 0 [] (omega arith), put-none d 0)

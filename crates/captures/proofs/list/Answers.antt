@@ -1,6 +1,8 @@
 -- `captures::list` meets its contract.
 -- Assumes nothing.
 use native.Mathlib.Omega.{arith}
+use Rattle.std.proofs.Common.{rules, ◌∙◌}
+use Rattle.texts.proofs.Writing.{wrote_front}
 use Rattle.captures.specs.Captures.{datagrams_answered, octets_of}
 use Rattle.captures.proofs.Lists.{other_store, no_line-room, lists}
 use Rattle.captures.proofs.list.Goals as goal
@@ -18,6 +20,8 @@ pub returns : goal.returns
 unfolding datagrams_answered octets_of
 returns c =
     let a = c.args in
-    let w = c.answer_all-step in
+    let w = c.answer_all-gateway in
+    let p = w.ensures.1 in
+    let front = wrote_front _ a.text.now _ _ c.new-out.ensures.1 c.new-out.ensures.2 p.wrote in
     lists a.listing a.g a.store.now a.octets.now a.last a.text.now (omega (arith, c.if-store-ne-STORE.false)) (omega (arith, c.line_room.ensures, c.if-room-line_room.false))
-    c.count-k.result c.count-k.ensures _ _ _ _ _ w.ensures.0 w.ensures.1 w.ensures.2 c.octets_of.ensures
+    c.count-k.result c.count-k.ensures _ _ _ _ _ w.ensures.0 front.1 (search rules ∙ front.0) (omega (arith, p.most, c.new-out.ensures.2)) c.octets_of.ensures

@@ -8,6 +8,5 @@ use Rattle.captures.proofs.put_bad.Goals as goal
 pub returns : goal.returns
 returns c =
     let a = c.args in
-    let f = c.ranges in
-    bad-written a.text.now a.at a.index a.t (omega (arith, f.index)) (omega arith) _ _ c.put_source-first.ensures _ _ c.requires
-    (more _ _ _ _ _ _ _ _ c.put_word.ensures (done _ _))
+    bad-written a.out.now a.index a.t (omega (arith, c.ranges.index)) (omega arith) _ c.put_source.ensures _ c.requires
+    (more _ _ _ _ _ c.word.ensures (done _))

@@ -9,7 +9,5 @@ pub returns : goal.returns
 returns c =
     let a = c.args in
     let g = c.well_formed in
-    end_written a.c (omega (arith, g)) (omega (arith, g)) (omega (arith, g)) a.line.now _ _ c.requires
-    (more _ _ _ _ _ _ _ _ c.put_word-word.ensures (more _ _ _ _ _ _ _ _ c.put_decimal-first.ensures (more _ _ _ _ _ _ _ _ c.put_word-second.ensures
-    (more _ _ _ _ _ _ _ _ c.put_decimal-third.ensures (more _ _ _ _ _ _ _ _ c.put_word-fourth.ensures (more _ _ _ _ _ _ _ _ c.put_decimal-fifth.ensures
-    (more _ _ _ _ _ _ _ _ c.put_word.ensures (done _ _))))))))
+    end_written a.c (omega (arith, g)) (omega (arith, g)) (omega (arith, g)) _ _ c.requires
+    (more _ _ _ _ _ c.word.ensures (more _ _ _ _ _ c.decimal.ensures (more _ _ _ _ _ c.word-2.ensures (more _ _ _ _ _ c.decimal-2.ensures (more _ _ _ _ _ c.word-3.ensures (more _ _ _ _ _ c.decimal-3.ensures (more _ _ _ _ _ c.word-4.ensures (done _))))))))

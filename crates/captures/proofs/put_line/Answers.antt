@@ -1,21 +1,18 @@
 -- `captures::put_line` meets its contract.
 -- Assumes nothing.
+use mathlib.Core.Path.{subst, ◌∙◌}
+use Prim.Native.Nat.{ℕ}
+use Rattle.texts.specs.Parts.{AtMost}
 use Rattle.receiver.specs.Events.{told}
-use Rattle.captures.proofs.Lines.{numbers-room, deliveries_room, number-listed, delivery_listed}
+use Rattle.captures.specs.Lines.{number_line, line_room}
+use Rattle.captures.specs.Parts.{listed_line}
+use Rattle.captures.proofs.Lines.{number-said}
 use Rattle.captures.proofs.put_line.Goals as goal
 
-pub put_number-requires : goal.put_number-requires
-put_number-requires c = numbers-room _ _ _ c.in-Numbers.is c.requires.0
-
-pub put_delivery-requires : goal.put_delivery-requires
-put_delivery-requires c = (deliveries_room _ _ _ c.in-Deliveries.is c.requires.0, c.requires.1)
-
 pub returns-in-Numbers : goal.returns-in-Numbers
+unfolding line_room listed_line
 returns-in-Numbers c =
     let a = c.args in
-    number-listed a.index a.t a.store.now _ _ _ _ a.listing (told a.a) _ c.in-Numbers.is c.number_of.ensures c.put_number.ensures
-
-pub returns-in-Deliveries : goal.returns-in-Deliveries
-returns-in-Deliveries c =
-    let a = c.args in
-    delivery_listed a.index a.t a.store.now _ _ _ _ a.listing (told a.a) c.in-Deliveries.is c.put_delivery.ensures
+    rw c.in-Numbers.is
+    (subst (λ (n : ℕ). AtMost 25 (number_line a.index n) a.out.now c.put_number.new.out) (c.number_of.ensures ∙ number-said (told a.a) a.store.now)
+    c.put_number.ensures)

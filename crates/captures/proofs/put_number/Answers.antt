@@ -9,6 +9,5 @@ pub returns : goal.returns
 returns c =
     let a = c.args in
     let f = c.ranges in
-    number-written a.text.now a.at _ _ a.index a.number (omega (arith, f.index)) (omega (arith, f.number)) c.requires
-    (more _ _ _ _ _ _ _ _ c.put_decimal-space.ensures (more _ _ _ _ _ _ _ _ c.put_word-second.ensures (more _ _ _ _ _ _ _ _ c.put_decimal-end.ensures
-    (more _ _ _ _ _ _ _ _ c.put_word.ensures (done _ _)))))
+    number-written _ _ a.index a.number (omega (arith, f.index)) (omega (arith, f.number)) c.requires
+    (more _ _ _ _ _ c.decimal.ensures (more _ _ _ _ _ c.word.ensures (more _ _ _ _ _ c.decimal-2.ensures (more _ _ _ _ _ c.word-2.ensures (done _)))))

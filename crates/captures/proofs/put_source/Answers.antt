@@ -8,6 +8,5 @@ use Rattle.captures.proofs.put_source.Goals as goal
 pub returns : goal.returns
 returns c =
     let a = c.args in
-    let f = c.ranges in
-    source-written a.text.now a.at _ _ a.t a.index (omega (arith, f.index)) (omega arith) c.requires
-    (more _ _ _ _ _ _ _ _ c.put_decimal-first.ensures (more _ _ _ _ _ _ _ _ c.put_word-second.ensures (more _ _ _ _ _ _ _ _ c.put_decimal.ensures (done _ _))))
+    source-written _ _ a.t a.index (omega (arith, c.ranges.index)) (omega arith) c.requires
+    (more _ _ _ _ _ c.decimal.ensures (more _ _ _ _ _ c.word.ensures (more _ _ _ _ _ c.decimal-2.ensures (done _))))

@@ -3,7 +3,7 @@
 use Rattle.std.proofs.Common.{sym, ◌∙◌, arith}
 use Rattle.captures.specs.Lines.{closing}
 use Rattle.captures.proofs.Lines.{length-closing}
-use Rattle.texts.proofs.Writing.{end_within, end_inside, wrote_front}
+use Rattle.texts.proofs.Writing.{end_within, end_inside, put_front}
 use Rattle.listings.proofs.close.Goals as goal
 
 pub returns : goal.returns
@@ -14,5 +14,5 @@ returns c =
     let few = length-closing a.c (omega arith) (omega arith) (omega arith) a.listing in
     let long = k.ensures.0 ∙ sym (end_inside a.text.now 0 last (omega (arith, few, c.requires))) in (
       omega (arith, k.ensures.0, end_within a.text.now 0 last (omega arith), k.auto.text),
-      wrote_front last a.text.now k.result k.new.text (omega (arith, few, c.requires)) (long, k.ensures.1),
+      put_front last a.text.now k.new.text k.result (omega (arith, few, c.requires)) (omega (arith, long)) k.ensures.1,
     )

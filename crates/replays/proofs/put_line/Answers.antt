@@ -6,4 +6,4 @@ use Rattle.replays.proofs.put_line.Goals as goal
 pub returns : goal.returns
 returns c =
     let a = c.args in
-    octets-written a.text.now a.at _ _ a.line.now c.shorter-size.result c.from.result c.shorter-size.ensures c.from.ensures c.put_contents.ensures
+    octets-written a.out.now _ a.line.now c.shorter-size.result c.from.result c.shorter-size.ensures c.from.ensures c.put_contents.ensures

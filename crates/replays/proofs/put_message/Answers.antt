@@ -6,9 +6,5 @@ use Rattle.replays.proofs.put_message.Goals as goal
 
 pub returns : goal.returns
 returns c =
-    let a = c.args in
-    let p = c.requires in
-    message-written a.text.now a.at _ _ p.0 a.message.now p.1
-    (more _ _ _ _ _ _ _ _ c.put_word-first.ensures (more _ _ _ _ _ _ _ _ c.put_decimal-second.ensures
-    (more _ _ _ _ _ _ _ _ c.put_word-third.ensures (more _ _ _ _ _ _ _ _ c.put_octets-fourth.ensures
-    (more _ _ _ _ _ _ _ _ c.put_word.ensures (done _ _))))))
+    message-written c.args.out.now _ c.requires.0 c.args.message.now c.requires.1
+    (more _ _ _ _ _ c.word.ensures (more _ _ _ _ _ c.decimal.ensures (more _ _ _ _ _ c.word-2.ensures (more _ _ _ _ _ c.octets.ensures (more _ _ _ _ _ c.word-3.ensures (done _))))))

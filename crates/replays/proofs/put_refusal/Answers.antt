@@ -6,7 +6,4 @@ use Rattle.replays.proofs.Text.{refusal_written}
 use Rattle.replays.proofs.put_refusal.Goals as goal
 
 pub returns : goal.returns
-returns c =
-    let a = c.args in
-    refusal_written a.text.now a.at _ _ c.requires a.number (omega (arith, c.ranges.number))
-    (more _ _ _ _ _ _ _ _ c.put_decimal-end.ensures (more _ _ _ _ _ _ _ _ c.put_word.ensures (done _ _)))
+returns c = refusal_written c.args.out.now _ c.requires c.args.number (omega (arith, c.ranges.number)) (more _ _ _ _ _ c.decimal.ensures (more _ _ _ _ _ c.word.ensures (done _)))

@@ -6,8 +6,5 @@ use Rattle.replays.proofs.put_restored.Goals as goal
 
 pub returns : goal.returns
 returns c =
-    let a = c.args in
-    let p = c.requires in
-    restored-written a.text.now a.at _ _ p.0 a.form.now p.1
-    (more _ _ _ _ _ _ _ _ c.put_word-first.ensures (more _ _ _ _ _ _ _ _ c.put_octets-second.ensures
-    (more _ _ _ _ _ _ _ _ c.put_word.ensures (done _ _))))
+    restored-written c.args.out.now _ c.requires.0 c.args.form.now c.requires.1
+    (more _ _ _ _ _ c.word.ensures (more _ _ _ _ _ c.octets.ensures (more _ _ _ _ _ c.word-2.ensures (done _))))

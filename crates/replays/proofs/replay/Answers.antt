@@ -1,6 +1,8 @@
 -- `replays::replay` meets its contract.
 -- Assumes nothing.
 use native.Mathlib.Omega.{arith}
+use Rattle.std.proofs.Common.{rules, ◌∙◌}
+use Rattle.texts.proofs.Writing.{wrote_front}
 use Rattle.replays.proofs.Replays.{other_store, no_line-room, replays}
 use Rattle.replays.proofs.replay.Goals as goal
 use Rattle.replays.proofs.replay.Goals.{then-store-ne-STORE-via-then-store-ne-STORE, then-store-ne-STORE-via-else-store-ne-STORE+then-room-lt-ROOM}
@@ -17,5 +19,6 @@ pub returns : goal.returns
 returns c =
     let a = c.args in
     let w = c.answer_all.ensures in
-    let octets = c.type_inv.octets in
-    replays a.rx a.store.now a.octets.now a.last a.text.now (omega (arith, c.if-store-ne-STORE.false)) c.if-room-lt-ROOM.false (λ j. (octets j).fits) _ _ _ _ _ w.0 w.1 w.2 w.3 w.4
+    let front = wrote_front _ a.text.now _ _ c.new-out.ensures.1 c.new-out.ensures.2 w.1.wrote in
+    replays a.rx a.store.now a.octets.now a.last a.text.now (omega (arith, c.if-store-ne-STORE.false)) c.if-room-lt-ROOM.false (λ j. (c.type_inv.octets j).fits)
+    _ _ _ _ _ w.0 (w.2 ∙ front.1) (search rules ∙ front.0) (omega (arith, w.1.most, w.2, c.new-out.ensures.2)) w.3 w.4
