@@ -25,7 +25,8 @@ const DATAGRAM: usize = 53;
 // The most octets of the last line.
 const END: usize = 67;
 
-// What is listed: index and number of every datagram, or the messages that are handed on.
+// What is listed: index and number of every datagram, or the messages that are handed on. It stays an enum: the definitions and claims speak
+// of both texts by a match over it, which a trait would say again as ghost fields of two types without fields.
 #[derive(Clone, Copy, Debug, PartialEq, Eq)]
 pub enum Listing {
     Numbers,
@@ -33,14 +34,14 @@ pub enum Listing {
 }
 
 // The receiver and the counts of its answers.
-#[derive(Clone, Copy)]
+#[derive(Clone, Copy, Debug, PartialEq, Eq)]
 pub struct Gateway {
     pub receiver: Receiver,
     pub counts: Counts,
 }
 
 // The gateway after the datagrams, the octets that they took, and where the text ends.
-#[derive(Clone, Copy)]
+#[derive(Clone, Copy, Debug, PartialEq, Eq)]
 pub struct Listed {
     pub gateway: Gateway,
     pub taken: usize,

@@ -10,7 +10,7 @@ ghost use Rattle.reception.specs.Reception.{Confirmed};
 use foundation::refusal::Refusal;
 use receiver::event::Answer;
 
-#[derive(Clone, Copy)]
+#[derive(Clone, Copy, Debug, PartialEq, Eq)]
 pub struct Counts {
     pub datagrams: u64,
     pub messages: u64,

@@ -21,7 +21,7 @@ pub const END: usize = 67;
 pub const ADDRESS: usize = 3;
 
 // How many of the octets are answered, and where their text ends.
-#[derive(Clone, Copy)]
+#[derive(Clone, Copy, Debug, PartialEq, Eq)]
 pub struct Printed {
     pub taken: usize,
     pub end: usize,
@@ -42,7 +42,7 @@ pub trait Printer {
 }
 
 // How many octets were read and how many of text were written, modulo 2^64.
-#[derive(Clone, Copy)]
+#[derive(Clone, Copy, Debug, PartialEq, Eq)]
 pub struct Ended {
     pub read: u64,
     pub written: u64,
@@ -127,6 +127,7 @@ pub fn run<R: Read, W: Write, P: Printer>(
     ensures counted { IfOk result (λ e. ReadAndWritten P.whole printer.old e.read e.written) }
     ensures known { OnOk result (AllWritten P.whole printer.old (R.remaining from.old) (W.contents to.old) (W.contents to.new)) }
 {
+    // How many octets have come stands beside the memory for them, which is fixed: the programs keep nothing on a heap.
     let mut input = [0u8; INPUT];
     let mut text = [0u8; TEXT];
     let mut size: usize = 0;

@@ -4,7 +4,7 @@ ghost use Rattle.std.specs.Prelude.{◌≡◌, ◌<◌};
 ghost use Rattle.interleaver.specs.Lanes.{swapped, crossed_high, crossed_low, within, turned_square};
 
 // A row in each lane of 16 bits, the first highest in a.
-#[derive(Clone, Copy)]
+#[derive(Clone, Copy, Debug, PartialEq, Eq)]
 pub struct Square {
     pub a: u64,
     pub b: u64,

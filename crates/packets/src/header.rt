@@ -11,7 +11,8 @@ use foundation::refusal::Refusal;
 // The mask of headers.
 const MASK: u16 = 0xCCCC;
 
-// The fields that all formats have. `requested` is A, response requested; `full` the full-message flag, `blocks` the block count.
+// The fields that all formats have. `requested` is A, response requested; `full` the full-message flag, `blocks` the block count. Bits and
+// counts stay numbers: the writer takes any, and refuses with 16 those over their width.
 #[derive(Clone, Copy, Debug, PartialEq, Eq)]
 pub struct Common {
     pub group: u8,

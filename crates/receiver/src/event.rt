@@ -28,7 +28,7 @@ pub enum Answer {
 }
 
 // The receiver after an event, and the answer or the refusal.
-#[derive(Clone, Copy)]
+#[derive(Clone, Copy, Debug, PartialEq, Eq)]
 pub struct Step {
     pub receiver: Receiver,
     pub answer: Result<Answer, Refusal>,

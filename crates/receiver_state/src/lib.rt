@@ -16,7 +16,7 @@ pub const STORE: usize = BLOCK * MOST_BLOCKS;
 
 // The receiver: own address, phase (0 no transaction, 1 open, 2 complete), transaction, and the flags of the held blocks.
 // The phase stays a number: every event takes a receiver of any phase, and refuses with 1 one that there can't be.
-#[derive(Clone, Copy)]
+#[derive(Clone, Copy, Debug, PartialEq, Eq)]
 pub struct Receiver {
     pub own: RadioAddress,
     pub phase: u8,
@@ -24,22 +24,24 @@ pub struct Receiver {
     pub flags: Flags,
 }
 
+// No transaction: zeros for its fields.
+const NONE: Transaction = Transaction {
+    source: RadioAddress(0),
+    sap: 0,
+    ns: 0,
+    pad: 0,
+    blocks: 0,
+};
+
 // A receiver with no transaction.
 #[tactic(auto, unfolding(crate::specs::Receiver::fresh_receiver, crate::specs::Receiver::no_transaction))]
 pub fn idle(own: RadioAddress) -> Receiver
     ensures { result ≡ fresh_receiver own }
 {
-    let transaction = Transaction {
-        source: RadioAddress(0),
-        sap: 0,
-        ns: 0,
-        pad: 0,
-        blocks: 0,
-    };
     Receiver {
         own,
         phase: 0,
-        transaction,
+        transaction: NONE,
         flags: Flags::none(),
     }
 }
@@ -71,20 +73,13 @@ fn transaction_good(t: Transaction) -> bool
         && t.pad as usize <= BLOCK * blocks - CHECK
 }
 
-// Whether every field of a transaction is 0.
-#[tactic(auto, unfolding(crate::specs::Receiver::transaction_none, foundation::specs::Order::all))]
-fn transaction_none(t: Transaction) -> bool
-    ensures { result ≡ transaction_none t }
-{
-    t.source.0 == 0 && t.sap == 0 && t.ns == 0 && t.pad == 0 && t.blocks == 0
-}
-
 // Whether the fields are those of the phase, which stays a number, as in the receiver.
+#[tactic(auto, unfolding(crate::specs::Receiver::transaction_none, foundation::specs::Order::all))]
 fn fields_good(phase: u8, t: Transaction) -> bool
     ensures { result ≡ cond (eqb phase 0) (transaction_none t) (transaction_good t) }
 {
     if phase == 0 {
-        transaction_none(t)
+        t == NONE
     } else {
         transaction_good(t)
     }

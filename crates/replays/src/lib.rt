@@ -36,7 +36,7 @@ const CONTENTS: usize = 1024;
 pub const ROOM: usize = 2064;
 
 // The receiver after the records, the octets that they took, and where the text ends.
-#[derive(Clone, Copy)]
+#[derive(Clone, Copy, Debug, PartialEq, Eq)]
 pub struct Replayed {
     pub receiver: Receiver,
     pub taken: usize,
@@ -125,8 +125,8 @@ fn put_line(out: &mut Writer, line: &[u8])
 
 // ---- records
 
-// A record in a log that has come: its kind, and where its octets begin and end.
-#[derive(Clone, Copy)]
+// A record in a log that has come: its kind, and where its octets begin and end. The kind stays a number: an octet of a log, any of them.
+#[derive(Clone, Copy, Debug, PartialEq, Eq)]
 pub struct Cut {
     pub kind: u8,
     pub start: usize,
