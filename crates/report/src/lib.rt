@@ -9,7 +9,7 @@ use std::io::Write;
 use std::{fmt, io};
 
 // How many cases have run, how many of them went wrong, and why something that was to be written could not be, the last time.
-#[derive(Clone, Copy, Debug, PartialEq, Eq)]
+#[derive(Clone, Copy)]
 pub struct Tally {
     pub cases: u32,
     pub wrong: u32,
