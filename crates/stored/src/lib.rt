@@ -19,6 +19,7 @@ fn held_store(flags: Flags, store: &[u8; STORE]) -> [u8; STORE]
     ensures { result ≡ held_octets (flagged flags.octets) (λ i. get_or store.now i 0) 0 store_size }
 {
     let mut held = [0u8; STORE];
+    // By number, since a block's number says which flag is its.
     for n in 0..MOST_BLOCKS {
         if flags.is_set(n) {
             let at = BLOCK * n;

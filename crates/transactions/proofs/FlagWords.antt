@@ -4,15 +4,17 @@ use mathlib.Core.Path.{◌≡◌, refl, sym, ap, ap₂, ◌∙◌}
 use mathlib.Core.Bool.{Bool, true, false, not, cond, beq}
 use mathlib.Core.List.{List}
 use Prim.Native.Nat.{ℕ, zero, suc, ◌+◌, ◌*◌, ◌-◌, ◌%◌, ◌^◌, ◌≤◌, ◌<◌}
-use native.Mathlib.Nat.{add-zero, add-suc, mul-add, mul_comm, one-mul, pow-suc, lt_of_lt_of_le}
+use native.Mathlib.Nat.{add-zero, add-suc, mul-add, mul_comm, one-mul, pow-suc}
 use native.Mathlib.Omega.{arith}
 use lib.Bits.{bit_and, and_block}
 use lib.Dec.{eqb, ltb}
 use lib.ListN.{get_or}
-use lib.Pow.{pow_pos, pow-add, pow_mono, shl_exact}
+use lib.Pow.{pow_pos, pow-add, shl_exact}
 use borrow.Author.Tests.{eqb-true, eq-eqb, ne_eqb, ltb-true, lt-ltb, le-ltb}
 use Rattle.foundation.specs.Order.{every}
 use Rattle.foundation.proofs.Tests.{last, same_test, every_ext, all-eq}
+use Rattle.std.specs.Int.{w64, from_le_bytes, sum_through, byte_worth}
+use Rattle.std.specs.List.{slice_index}
 use Rattle.transactions.specs.Flags.{flagged, weights}
 use Rattle.transactions.specs.Parts.{word_of, is_between, as_wanted}
 use Rattle.foundation.proofs.Every.{every-asked}
@@ -86,21 +88,43 @@ module _ (f g : ℕ → Bool) (at : ℕ) where
 
 -- ---- the flags
 
-module _ (os : List ℕ) (octet : (i : ℕ) → get_or os i 0 < 256) (j k w : ℕ) (few : k < 8) (is : w ≡ weights (flagged os) (64 * j) (8 * k)) where
-  -- one octet more as the code adds it, and that it fits
-  pub word_more : w + get_or os (8 * j + k) 0 * 2 ^ (8 * k) % 2 ^ 64 ≡ weights (flagged os) (64 * j) (8 * (k + 1))
-  word_more =
-      ap₂ ◌+◌ is (shl_exact 8 (8 * k) 64 (octet (8 * j + k)) (omega arith) ∙ mul_comm (get_or os (8 * j + k) 0) (2 ^ (8 * k)) ∙ ap (λ (x : ℕ). 2 ^ (8 * k) * x) (sym (octet_of_flags os octet (8 * j + k)) ∙ ap (λ (at : ℕ). weights (flagged os) at 8) place))
-      ∙ sym (ap (weights (flagged os) (64 * j)) more ∙ weights-append (flagged os) (64 * j) (8 * k) 8)
+powers : (k : ℕ) → 256 ^ k ≡ 2 ^ (8 * k)
+powers zero = refl
+powers (suc k) =
+    let more : 8 * k + 8 ≡ 8 * suc k = omega arith in
+    pow-suc 256 k ∙ ap (λ (x : ℕ). x * 256) (powers k) ∙ sym (pow-add 2 (8 * k) 8) ∙ ap (λ (n : ℕ). 2 ^ n) more
+
+module _ (os : List ℕ) (octet : (i : ℕ) → get_or os i 0 < 256) (j : ℕ) (l : List ℕ) (same : (i : ℕ) → i < 8 → get_or l i 0 ≡ get_or os (8 * j + i) 0) where
+  -- the first octets of a word, the lowest first
+  octets-read : (k : ℕ) → k < 8 → sum_through (λ i. byte_worth i (slice_index l i)) k ≡ weights (flagged os) (64 * j) (8 * (k + 1))
+  octets-read zero h =
+      same 0 h ∙ sym (octet_of_flags os octet (8 * j + 0)) ∙ ap (λ (at : ℕ). weights (flagged os) at 8) place
     where
-      place : 8 * (8 * j + k) ≡ 64 * j + 8 * k
+      place : 8 * (8 * j + 0) ≡ 64 * j
+      place = omega arith
+  octets-read (suc k) h =
+      ap₂ ◌+◌ (octets-read k (omega arith)) worth
+      ∙ sym (weights-append (flagged os) (64 * j) (8 * (k + 1)) 8)
+      ∙ ap (weights (flagged os) (64 * j)) more
+    where
+      place : 8 * (8 * j + suc k) ≡ 64 * j + 8 * (k + 1)
       place = omega arith
 
-      more : 8 * (k + 1) ≡ 8 * k + 8
+      more : 8 * (k + 1) + 8 ≡ 8 * (suc k + 1)
       more = omega arith
 
-  pub word_room : w + get_or os (8 * j + k) 0 * 2 ^ (8 * k) % 2 ^ 64 < 2 ^ 64
-  word_room = rw word_more (lt_of_lt_of_le (weights-lt (flagged os) (64 * j) (8 * (k + 1))) (pow_mono {i = 8 * (k + 1)} {j = 64} (omega arith)))
+      times : 8 * suc k ≡ 8 * (k + 1)
+      times = omega arith
+
+      worth : get_or l (suc k) 0 * 256 ^ suc k ≡ 2 ^ (8 * (k + 1)) * weights (flagged os) (64 * j + 8 * (k + 1)) 8
+      worth =
+          ap₂ ◌*◌ (same (suc k) h ∙ sym (octet_of_flags os octet (8 * j + suc k)) ∙ ap (λ (at : ℕ). weights (flagged os) at 8) place)
+          (powers (suc k) ∙ ap (λ (n : ℕ). 2 ^ n) times)
+          ∙ mul_comm (weights (flagged os) (64 * j + 8 * (k + 1)) 8) (2 ^ (8 * (k + 1)))
+
+  -- the word of eight octets
+  pub word_read : from_le_bytes w64 l ≡ word_of (flagged os) j
+  word_read = octets-read 7 (omega arith)
 
 -- ---- the blocks below n
 

@@ -87,11 +87,8 @@ impl Flags {
         requires { j < word_count }
         ensures { result ≡ word_of (flagged self.octets) j }
     {
-        let mut w: u64 = 0;
-        for k in 0..8 {
-            w += (self.octets[8 * j + k] as u64) << (8 * k);
-        }
-        w
+        let (words, _) = self.octets.as_chunks::<8>();
+        u64::from_le_bytes(words[j])
     }
 
     // Whether every block from `from` on and below `to` is flagged where `wanted` is true, and none where it is false.
@@ -99,6 +96,7 @@ impl Flags {
     fn every_between(self, from: usize, to: usize, wanted: bool) -> bool
         ensures { result ≡ every flag_count (as_wanted self.octets from to wanted) }
     {
+        // `all` over the numbers was tried, and the proof that its closure keeps the flags didn't close.
         for j in 0..WORDS {
             let blocks = between(from, to, j);
             let held = self.word(j) & blocks;

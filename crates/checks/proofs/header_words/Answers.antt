@@ -9,7 +9,7 @@ use Rattle.polynomials.specs.Remainder.{remainder}
 use Rattle.folds.specs.Folds.{header_fourth}
 use Rattle.foundation.proofs.OctetWords.{whole_word}
 use Rattle.folds.proofs.Octets.{header-first, header_more}
-use Rattle.checks.proofs.Chunks.{value-front}
+use Rattle.foundation.proofs.Chunks.{value-front}
 use Rattle.checks.proofs.header_words.Goals as goal
 
 pub loop-i-init : goal.loop-i-init

@@ -15,7 +15,7 @@ use Rattle.polynomials.specs.Remainder.{divide}
 use Rattle.folds.proofs.Tables.{message_times}
 use Rattle.checks.specs.Checks.{message_generator}
 use Rattle.checks.specs.Parts.{message_so_far}
-use Rattle.checks.proofs.Chunks.{chunk_element}
+use Rattle.foundation.proofs.Chunks.{chunk_element}
 use Rattle.checks.proofs.MessageChecks.{so_far_lt, so_far_word}
 use Rattle.checks.proofs.message_pairs.Goals as goal
 
