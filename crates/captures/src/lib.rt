@@ -184,14 +184,27 @@ fn close_numbers(c: Counts, text: &mut [u8]) -> usize
     out.end
 }
 
-// The last line of a listing, if it has one, at the start of the text where it has room.
-#[tactic(auto, unfolding(crate::specs::Lines::closing))]
-pub fn close(listing: Listing, c: Counts, text: &mut [u8]) -> usize
-    ensures { (result ≡ end_at text.old 0 (closing listing c)) × (text.new ≡ put text.old 0 (closing listing c)) }
-{
-    match listing {
-        Listing::Numbers => close_numbers(c, text),
-        Listing::Deliveries => 0,
+impl Listing {
+    // The last line, if there is one, at the start of the text where it has room.
+    #[tactic(auto, unfolding(crate::specs::Lines::closing))]
+    pub fn close(self, c: Counts, text: &mut [u8]) -> usize
+        ensures { (result ≡ end_at text.old 0 (closing self c)) × (text.new ≡ put text.old 0 (closing self c)) }
+    {
+        match self {
+            Listing::Numbers => close_numbers(c, text),
+            Listing::Deliveries => 0,
+        }
+    }
+
+    // The most octets of a line.
+    #[tactic(auto, unfolding(crate::specs::Lines::line_room))]
+    fn line_room(self) -> usize
+        ensures { result ≡ line_room self }
+    {
+        match self {
+            Listing::Numbers => 25,
+            Listing::Deliveries => 1302,
+        }
     }
 }
 
@@ -249,38 +262,23 @@ fn answer_all(
 }
 
 // How many datagrams are answered: those that have come whole, or all where nothing follows; no more than there is room for.
+#[tactic(auto, using(crate::proofs::Lists::some_room))]
 fn count(listing: Listing, size: usize, last: bool, room: usize) -> usize
     ensures { result ≡ min (cond last (datagrams_in size) (whole_in size)) (room / line_room listing) }
 {
-    let fits = room / line_room(listing);
-    if last {
-        return foundation::octets::shorter(
-            size / DATAGRAM + (size % DATAGRAM + DATAGRAM - 1) / DATAGRAM,
-            fits,
-        );
-    }
-    foundation::octets::shorter(size / DATAGRAM, fits)
-}
-
-// The most octets of a line.
-#[tactic(auto, unfolding(crate::specs::Lines::line_room))]
-fn line_room(listing: Listing) -> usize
-    ensures { result ≡ line_room listing }
-{
-    match listing {
-        Listing::Numbers => 25,
-        Listing::Deliveries => 1302,
-    }
+    let come = if last {
+        size.div_ceil(DATAGRAM)
+    } else {
+        size / DATAGRAM
+    };
+    foundation::octets::shorter(come, room / listing.line_room())
 }
 
 // The octets of k datagrams, of so many that there are.
 fn octets_of(k: usize, size: usize) -> usize
     ensures { result ≡ min (53 * k) size }
 {
-    if size / DATAGRAM < k {
-        return size;
-    }
-    DATAGRAM * k
+    foundation::octets::shorter(DATAGRAM.saturating_mul(k), size)
 }
 
 // Octets of datagrams at a gateway: the lines of those that have come whole, at the start of the text, and of leftover octets too where
@@ -300,7 +298,7 @@ pub fn list(
 {
     let size = octets.len();
     let room = text.len();
-    if store.len() != STORE || room < line_room(listing) {
+    if store.len() != STORE || room < listing.line_room() {
         return Err(Refusal::Size);
     }
     let k = count(listing, size, last, room);

@@ -51,7 +51,7 @@ fn close(listing: Listing, c: Counts, text: &mut [u8]) -> usize
     requires { 67 ≤ length text.old }
     ensures { (result ≤ length text.new) × (take result text.new ≡ closing listing c) }
 {
-    captures::close(listing, c, text)
+    listing.close(c, text)
 }
 
 // Reads what is behind the own address and writes the listing. Where the address is cut short there is nothing but the last line.

@@ -28,7 +28,7 @@ use Rattle.receiver_state.specs.Receiver.{receiver_good}
 use Rattle.receiver.specs.Events.{on_end}
 
 -- header and data block have 12 octets each, there is at most one, and the number is one of the table
-record Whole (w : ResponseWritten) : Type 0 where
+pub record Whole (w : ResponseWritten) : Type 0 where
   pub header : length w.header ≡ 12
   pub block : length w.block ≡ 12
   pub few : w.blocks ≤ 1
@@ -51,7 +51,7 @@ written_whole r d flags e =
     (λ t. rw t (record { header = written-length (response_header r d); block = data_twelve r flags e; few = few_blocks r; small = omega arith }))
     (λ t. rw t (record { header = refl; block = refl; few = omega arith; small = omega arith }))
 
-end_whole : (rx : Receiver) → Whole (on_end rx)
+pub end_whole : (rx : Receiver) → Whole (on_end rx)
 unfolding on_end response_to sack_flags flag_octets
 end_whole rx =
     either (receiver_good rx)

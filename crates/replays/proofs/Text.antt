@@ -14,18 +14,11 @@ use Rattle.texts.specs.Parts.{HasRoom, Wrote, AtMost}
 use Rattle.texts.specs.declared.Writer.{Writer}
 use Rattle.texts.proofs.Decimals.{short}
 use Rattle.texts.proofs.Writing.{wrote, Chain, total, chained, length-parts, length-octets}
-use Rattle.packets.proofs.HeaderBack.{written-length}
-use Rattle.packets.specs.Headers.{width_number}
-use Rattle.messages.proofs.ResponseReading.{length-sack_data}
-use Rattle.messages.specs.Responses.{reply_code, response_header, response_data, write_response}
-use Rattle.messages.specs.declared.message.Delivery.{Delivery}
-use Rattle.messages.specs.declared.response.Reply.{Reply}
 use Rattle.messages.specs.Responses.{ResponseWritten}
-use Rattle.transactions.specs.Answers.{refused, opened, repeat, stored, bad, message, response, sack_flags, response_to, response_said}
-use Rattle.transactions.specs.Flags.{flag_octet_count, flag_octets}
-use Rattle.receiver_state.specs.Receiver.{receiver_good}
-use Rattle.receiver_state.specs.declared.Receiver.{Receiver}
+use Rattle.transactions.specs.Answers.{refused, opened, repeat, stored, bad, message, response, response_said}
+use Rattle.transactions.specs.Flags.{flag_octet_count}
 use Rattle.receiver.specs.Events.{Answer, Refused, Opened, Repeat, Stored, Bad, Message, said, on_end}
+use Rattle.receiver.proofs.Ends.{Whole, end_whole}
 use Rattle.stored.specs.Stored.{stored_block, saved}
 use Rattle.stored.proofs.ReadingBack.{length_form}
 use Rattle.history.specs.History.{header, block, ended}
@@ -148,36 +141,17 @@ said_fits Stored store h = tt
 said_fits Bad store h = tt
 said_fits (Message n) store h = omega (arith, length-take n store)
 
--- a response's header and data block have 12 octets each
-abbrev Twelves : ResponseWritten → Type 0
-Twelves r = (length r.header ≡ 12) × (length r.block ≡ 12)
-
-response-said_fits : (r : ResponseWritten) → Twelves r → Fits (answer (response_said r))
+response-said_fits : (r : ResponseWritten) → Whole r → Fits (answer (response_said r))
 unfolding response_said
 response-said_fits r t =
-    either (eqb r.number 0) (λ e. rw e (t.0, omega (arith, length-take (12 * r.blocks) r.block, t.1))) (λ e. rw e tt)
-
-data_twelve : (r : Reply) (flags : List ℕ) → length flags ≡ flag_octet_count → length (response_data r flags) ≡ 12
-unfolding response_data
-data_twelve r flags e = either (eqb (reply_code r).2 0) (λ t. rw t) (λ t. rw t (length-sack_data flags e))
-
-write_twelves : (r : Reply) (d : Delivery) (flags : List ℕ) → length flags ≡ flag_octet_count → Twelves (write_response r d flags)
-unfolding write_response
-write_twelves r d flags e =
-    either (eqb (width_number (response_header r d)) 0) (λ t. rw t (written-length (response_header r d), data_twelve r flags e)) (λ t. rw t (refl, refl))
-
-end_twelves : (rx : Receiver) → Twelves (on_end rx)
-unfolding on_end response_to sack_flags flag_octets
-end_twelves rx =
-    either (receiver_good rx) (λ t. rw t (either (eqb rx.phase 0) (λ e. rw e (refl, refl)) (λ e. rw e (write_twelves _ _ _ refl))))
-    (λ t. rw t (refl, refl))
+    either (eqb r.number 0) (λ e. rw e (t.header, omega (arith, length-take (12 * r.blocks) r.block, t.block))) (λ e. rw e tt)
 
 line_fits : (s : State) (r : Record) → length s.store ≤ 2 * stored_block → length (after_record s r).store ≤ 2 * stored_block
     → length s.receiver.flags.octets ≡ flag_octet_count → Fits (line_of s r)
 unfolding line_of answer_to after_record after_event saved_form saved
 line_fits s (act (event (header h))) before after eight = said_fits _ s.store before
 line_fits s (act (event (block b))) before after eight = said_fits _ _ after
-line_fits s (act (event ended)) before after eight = response-said_fits (on_end s.receiver) (end_twelves s.receiver)
+line_fits s (act (event ended)) before after eight = response-said_fits (on_end s.receiver) (end_whole s.receiver)
 line_fits s (act (restart s0 s1 store)) before after eight = omega (arith, length_form s.receiver (λ i. get_or s.store i 0) s0 s1 eight)
 line_fits s none before after eight = tt
 

@@ -1,10 +1,10 @@
--- `captures::close` meets its contract.
+-- `captures::Listing::close` meets its contract.
 -- Assumes nothing.
 use mathlib.Core.List.{[]}
 use native.Mathlib.Omega.{arith}
 use Rattle.texts.proofs.Writing.{end_inside, put-none}
 use Rattle.captures.specs.Lines.{closing}
-use Rattle.captures.proofs.close.Goals as goal
+use Rattle.captures.proofs.Listing.close.Goals as goal
 
 pub returns-in-Deliveries : goal.returns-in-Deliveries
 unfolding closing
