@@ -1,16 +1,19 @@
--- A number behind tests, and answers behind the sizes of what is given.
+-- A number behind tests: of sizes, and of values that may not be over a most.
 -- Assumes nothing.
-use mathlib.Core.Path.{◌≡◌, refl, sym, ◌∙◌}
-use mathlib.Core.Bool.{Bool, true, false, cond}
+use mathlib.Core.Path.{◌≡◌, refl, sym, ap}
+use mathlib.Core.Bool.{Bool, true, false}
 use mathlib.Core.List.{List, [], ◌∷◌}
-use Prim.Native.Nat.{ℕ}
-use lib.Dec.{eqb}
+use Prim.Native.Nat.{ℕ, ◌<◌, ◌≤◌}
+use lib.Dec.{eqb, leb}
 use lib.ListN.{length}
-use borrow.Author.Tests.{eqb-true, eq-eqb, ne_eqb}
+use borrow.Author.Tests.{eqb-true, eq-eqb, ne_eqb, le-leb, lt-leb}
 use Rattle.foundation.specs.Order.{first_failed}
 use Rattle.foundation.proofs.Tests.{either}
+use Rattle.std.specs.Prelude.{Err}
+use Rattle.foundation.specs.Refusals.{refusal, outcome}
+use Rattle.foundation.specs.declared.refusal.Refusal.TheVariants.{Unwritable}
 use Rattle.layouts.specs.Lent.{Gives}
-use Rattle.layouts.proofs.Giving.{refused_with_1}
+use Rattle.layouts.proofs.Giving.{gives_as}
 use Rattle.capi.specs.Answers.{behind}
 
 module _ (n : ℕ) where
@@ -27,21 +30,26 @@ module _ (n : ℕ) where
     unfolding behind first_failed
     behind_failed e = rw e
 
-  pub behind-one : (t : Bool) (k : ℕ) → behind ((t, k) ∷ []) n ≡ cond t n k
-  behind-one true k = behind_passed true k [] refl ∙ behind-none
-  behind-one false k = behind_failed false k [] refl
+  module _ (os : List ℕ) (k : ℕ) (ts : List (Bool × ℕ)) where
+    pub past_size : length os ≡ k → behind ((eqb (length os) k, 1) ∷ ts) n ≡ behind ts n
+    past_size size = behind_passed (eqb (length os) k) 1 ts (eq-eqb (length os) k size)
 
--- ---- answers behind the sizes of what is given, and behind a test that is refused with 16
+    pub short : (length os ≡ k → ⊥) → behind ((eqb (length os) k, 1) ∷ ts) n ≡ 1
+    short h = behind_failed (eqb (length os) k) 1 ts (ne_eqb (length os) k h)
 
--- octets of another size
-pub given_short : (n k number : ℕ) (os octets out : List ℕ) (ts : List (Bool × ℕ)) → (length os ≡ k → ⊥)
-    → Gives n (behind ((eqb (length os) k, 1) ∷ ts) number, octets) out 1 out
-given_short n k number os octets out ts h =
-    refused_with_1 n (behind ((eqb (length os) k, 1) ∷ ts) number, octets) out (behind_failed number (eqb (length os) k) 1 ts (ne_eqb (length os) k h))
+  module _ (value most : ℕ) (ts : List (Bool × ℕ)) where
+    pub past_most : value ≤ most → behind ((leb value most, 16) ∷ ts) n ≡ behind ts n
+    past_most h = behind_passed (leb value most) 16 ts (le-leb value most h)
 
-module _ (k number : ℕ) (os : List ℕ) (size : length os ≡ k) where
-  pub past_size : (ts : List (Bool × ℕ)) → behind ((eqb (length os) k, 1) ∷ ts) number ≡ behind ts number
-  past_size ts = behind_passed number (eqb (length os) k) 1 ts (eq-eqb (length os) k size)
+    pub over_most : most < value → behind ((leb value most, 16) ∷ ts) n ≡ 16
+    over_most h = behind_failed (leb value most) 16 ts (lt-leb value most h)
 
-  pub past_both : (t : Bool) → behind ((eqb (length os) k, 1) ∷ (t, 16) ∷ []) number ≡ cond t number 16
-  past_both t = past_size ((t, 16) ∷ []) ∙ behind-one number t 16
+-- an answer by the number that stands behind the tests
+pub behind_as : {n r : ℕ} {out after : List ℕ} (number k : ℕ) (octets : List ℕ) (ts : List (Bool × ℕ)) → behind ts number ≡ k
+    → Gives n (k, octets) out r after → Gives n (behind ts number, octets) out r after
+behind_as number k octets ts e g = gives_as refl (ap (λ (x : ℕ). (x, octets)) (sym e)) g
+
+-- the refusal of 16
+pub unwritable : {A : Type 0} (a : A) → Err Unwritable ≡ outcome 16 a
+unfolding outcome refusal
+unwritable a = refl

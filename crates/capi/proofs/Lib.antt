@@ -1,4 +1,4 @@
 pub mod Behind
-pub mod Refusing
+pub mod BurstNumbers
+pub mod Making
 pub mod PacketNumbers
-pub mod Acting

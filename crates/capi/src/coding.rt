@@ -1,11 +1,10 @@
 // Slot type, block field and checks, for C.
-ghost use Rattle.std.specs.Prelude.{◌≡◌};
+ghost use Rattle.std.specs.Prelude.{◌≡◌, [], ◌∷◌};
 ghost use Rattle.checks.specs.Checks.{header_check, block_check, message_check};
 ghost use Rattle.codes.specs.SlotWord.{slot_word};
 ghost use Rattle.layouts.specs.Lent.{Gives};
 ghost use Rattle.capi.specs.Answers.{slot_read, field_written, field_read};
 
-use crate::refuse;
 use layouts::lent::give;
 
 // The 20 bits of a slot type.
@@ -21,10 +20,14 @@ pub extern "C" fn kirruskabe_write_slot_type(octet: u8) -> u32
 pub extern "C" fn kirruskabe_read_slot_type(word: u32, out: &mut [u8]) -> u8
     ensures { Gives 1 (slot_read word) out.old result out.new }
 {
-    match codes::slot_type::read(word) {
-        Ok(octet) => give(out, 0, &[octet]),
-        Err(refusal) => refuse(out, 1, refusal),
-    }
+    give(
+        out,
+        codes::slot_type::read(word).map(
+            |octet| -> [u8; 1]
+                ensures { result ≡ octet ∷ [] }
+            { [octet] },
+        ),
+    )
 }
 
 // A block field.
@@ -32,13 +35,10 @@ pub extern "C" fn kirruskabe_read_slot_type(word: u32, out: &mut [u8]) -> u8
 pub extern "C" fn kirruskabe_write_field(info: &[u8], out: &mut [u8]) -> u8
     ensures { Gives 25 (field_written info.now) out.old result out.new }
 {
-    if info.len() != 12 {
+    let Some(info) = info.as_array::<12>() else {
         return 1;
-    }
-    let mut os = [0u8; 12];
-    foundation::octets::put(&mut os, 0, info);
-    let field = codes::block_field::write(os);
-    give(out, 0, &field)
+    };
+    give(out, Ok(codes::block_field::write(*info)))
 }
 
 // The information of a block field.
@@ -46,10 +46,7 @@ pub extern "C" fn kirruskabe_write_field(info: &[u8], out: &mut [u8]) -> u8
 pub extern "C" fn kirruskabe_read_field(field: &[u8], out: &mut [u8]) -> u8
     ensures { Gives 12 (field_read field.now) out.old result out.new }
 {
-    match codes::block_field::read(field) {
-        Ok(info) => give(out, 0, &info),
-        Err(refusal) => refuse(out, 12, refusal),
-    }
+    give(out, codes::block_field::read(field))
 }
 
 // The header's check with any mask.

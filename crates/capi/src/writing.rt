@@ -1,5 +1,6 @@
 // Writers, for C.
-ghost use Rattle.std.specs.Prelude.{◌≡◌, cond, leb};
+ghost use Rattle.std.specs.Prelude.{◌≡◌, [], ◌∷◌, ◌++◌, replicate};
+ghost use Rattle.std.specs.Option.{unwrap_or};
 ghost use Rattle.foundation.specs.Refusals.{outcome};
 ghost use Rattle.datagrams.specs.Datagrams.{next_sequence};
 ghost use Rattle.packets.specs.Headers.{header_given};
@@ -7,25 +8,30 @@ ghost use Rattle.layouts.specs.Lent.{Gives};
 ghost use Rattle.layouts.specs.Layouts.{common_from, header_from, labels_from};
 ghost use Rattle.capi.specs.Answers.{message_size, header_before, header_again, message_block, header_written, fields_written, block_written, response_written, burst_written, datagram_written};
 
-use crate::refuse;
+use crate::joined;
 use addresses::{RepeaterNumber, address_at, number_at};
 use datagrams::Labels;
-use foundation::octets::{at, put};
+use foundation::octets::at;
 use foundation::refusal::Refusal;
-use layouts::lent::{give, give_both};
+use layouts::lent::give;
+use messages::message::Size;
+use messages::response::ResponseOctets;
 use packets::header::{Common, Header};
 
 // ---- messages
+
+fn size_octets(size: Size) -> [u8; 2]
+    ensures { result ≡ size.blocks ∷ size.pad ∷ [] }
+{
+    [size.blocks, size.pad]
+}
 
 // Blocks and pad of a message.
 #[unsafe(no_mangle)]
 pub extern "C" fn kirruskabe_message_size(octets: usize, out: &mut [u8]) -> u8
     ensures { Gives 2 (message_size octets) out.old result out.new }
 {
-    match messages::message::size_of(octets) {
-        Ok(size) => give(out, 0, &[size.blocks, size.pad]),
-        Err(refusal) => refuse(out, 2, refusal),
-    }
+    give(out, messages::message::size_of(octets).map(size_octets))
 }
 
 // The header before a whole message.
@@ -41,10 +47,7 @@ pub extern "C" fn kirruskabe_full_header(
     ensures { Gives 12 (header_before octets sap ns destination source) out.old result out.new }
 {
     let d = layouts::fields::delivery(sap, ns, destination, source);
-    match messages::message::full_header(octets, d) {
-        Ok(header) => give(out, 0, &header),
-        Err(refusal) => refuse(out, 12, refusal),
-    }
+    give(out, messages::message::full_header(octets, d))
 }
 
 // The header before a repeat attempt with `count` of the message's blocks.
@@ -61,10 +64,7 @@ pub extern "C" fn kirruskabe_partial_header(
     ensures { Gives 12 (header_again octets count sap ns destination source) out.old result out.new }
 {
     let d = layouts::fields::delivery(sap, ns, destination, source);
-    match messages::message::partial_header(octets, d, count) {
-        Ok(header) => give(out, 0, &header),
-        Err(refusal) => refuse(out, 12, refusal),
-    }
+    give(out, messages::message::partial_header(octets, d, count))
 }
 
 // Block n of a message.
@@ -72,10 +72,7 @@ pub extern "C" fn kirruskabe_partial_header(
 pub extern "C" fn kirruskabe_message_block(message: &[u8], n: usize, out: &mut [u8]) -> u8
     ensures { Gives 12 (message_block message.now n) out.old result out.new }
 {
-    match messages::message::block(message, n) {
-        Ok(block) => give(out, 0, &block),
-        Err(refusal) => refuse(out, 12, refusal),
-    }
+    give(out, messages::message::block(message, n))
 }
 
 // ---- headers, blocks and responses
@@ -96,6 +93,7 @@ fn common_from(f: &[u8]) -> Common
     }
 }
 
+// The header of the fields. The format is C's number.
 fn header_from(f: &[u8]) -> Result<Header, Refusal>
     ensures { result ≡ header_given (header_from f.now) }
 {
@@ -117,10 +115,7 @@ pub extern "C" fn kirruskabe_write_header(fields: &[u8], out: &mut [u8]) -> u8
     if fields.len() != 16 {
         return 1;
     }
-    match header_written(fields) {
-        Ok(octets) => give(out, 0, &octets),
-        Err(refusal) => refuse(out, 12, refusal),
-    }
+    give(out, header_written(fields))
 }
 
 // A block of ten data octets.
@@ -128,20 +123,17 @@ pub extern "C" fn kirruskabe_write_header(fields: &[u8], out: &mut [u8]) -> u8
 pub extern "C" fn kirruskabe_write_block(serial: u8, octets: &[u8], out: &mut [u8]) -> u8
     ensures { Gives 12 (block_written serial octets.now) out.old result out.new }
 {
-    match packets::block::write(serial, octets) {
-        Ok(block) => give(out, 0, &block),
-        Err(refusal) => refuse(out, 12, refusal),
-    }
+    give(out, packets::block::write(serial, octets))
 }
 
-// The number, or 16 where a value is over the most that it may be.
-fn at_most(most: u8, value: u8, number: u8) -> u8
-    ensures { result ≡ cond (leb value most) number 16 }
+// A header, and a data block or zeros.
+fn header_and_block(r: ResponseOctets) -> [u8; 24]
+    ensures { result ≡ r.header ++ unwrap_or r.block (replicate 12 0) }
 {
-    if value <= most { number } else { 16 }
+    joined(&r.header, &r.block.unwrap_or([0u8; 12]))
 }
 
-// A response; the flags are those of a SACK.
+// A response; the flags are those of a SACK. The reply is C's number.
 #[unsafe(no_mangle)]
 pub extern "C" fn kirruskabe_write_response(
     reply: u8,
@@ -154,25 +146,23 @@ pub extern "C" fn kirruskabe_write_response(
 ) -> u8
     ensures { Gives 24 (response_written reply sap ns destination source flags.now) out.old result out.new }
 {
-    if flags.len() != 8 {
+    let Some(flags) = flags.as_array::<8>() else {
         return 1;
-    }
+    };
     if 2 < reply {
-        return refuse(out, 24, Refusal::Unwritable);
+        return give::<24>(out, Err(Refusal::Unwritable));
     }
-    let mut os = [0u8; 8];
-    put(&mut os, 0, flags);
     let kind = layouts::fields::reply_of(reply);
     let d = layouts::fields::delivery(sap, ns, destination, source);
-    match messages::response::write(kind, d, os) {
-        Ok(r) => give_both(out, 0, &r.header, &r.block.unwrap_or([0u8; 12])),
-        Err(refusal) => refuse(out, 24, refusal),
-    }
+    give(
+        out,
+        messages::response::write(kind, d, *flags).map(header_and_block),
+    )
 }
 
 // ---- bursts and datagrams
 
-// A burst.
+// A burst. Data type and sync are C's numbers.
 #[unsafe(no_mangle)]
 pub extern "C" fn kirruskabe_write_burst(
     colour: u8,
@@ -183,18 +173,14 @@ pub extern "C" fn kirruskabe_write_burst(
 ) -> u8
     ensures { Gives 33 (burst_written colour datatype info.now sync) out.old result out.new }
 {
-    if info.len() != 12 {
+    let Some(info) = info.as_array::<12>() else {
         return 1;
-    }
-    let mut os = [0u8; 12];
-    put(&mut os, 0, info);
+    };
     if 1 < sync {
-        return refuse(out, 33, Refusal::Unwritable);
+        return give::<33>(out, Err(Refusal::Unwritable));
     }
-    match bursts::burst::write(colour, datatype, os, layouts::fields::sync_of(sync)) {
-        Ok(octets) => give(out, 0, &octets),
-        Err(refusal) => refuse(out, 33, refusal),
-    }
+    let s = layouts::fields::sync_of(sync);
+    give(out, bursts::burst::write(colour, datatype, *info, s))
 }
 
 fn labels_from(f: &[u8]) -> Labels
@@ -211,7 +197,7 @@ fn labels_from(f: &[u8]) -> Labels
     }
 }
 
-// A datagram with its burst.
+// A datagram with its burst. Data type and sync are C's numbers.
 #[unsafe(no_mangle)]
 pub extern "C" fn kirruskabe_write_datagram(
     labels: &[u8],
@@ -223,19 +209,20 @@ pub extern "C" fn kirruskabe_write_datagram(
 ) -> u8
     ensures { Gives 53 (datagram_written labels.now colour datatype info.now sync) out.old result out.new }
 {
-    if labels.len() != 17 || info.len() != 12 {
+    if labels.len() != 17 {
         return 1;
     }
-    let mut os = [0u8; 12];
-    put(&mut os, 0, info);
+    let Some(info) = info.as_array::<12>() else {
+        return 1;
+    };
     if 1 < sync {
-        return refuse(out, 53, Refusal::Unwritable);
+        return give::<53>(out, Err(Refusal::Unwritable));
     }
-    let l = labels_from(labels);
-    match datagrams::write(l, colour, datatype, os, layouts::fields::sync_of(sync)) {
-        Ok(octets) => give(out, 0, &octets),
-        Err(refusal) => refuse(out, 53, refusal),
-    }
+    let s = layouts::fields::sync_of(sync);
+    give(
+        out,
+        datagrams::write(labels_from(labels), colour, datatype, *info, s),
+    )
 }
 
 // The sequence counter of the next datagram.

@@ -12,6 +12,7 @@ use Rattle.foundation.proofs.Every.{every_held}
 use Rattle.std.specs.Prelude.{Result, Ok, Err, zero, suc}
 use Rattle.foundation.specs.Refusals.{refusal, refusal_number, outcome, number_given}
 use Rattle.foundation.specs.declared.refusal.Refusal.{Refusal}
+use Rattle.foundation.specs.declared.refusal.Refusal.TheVariants.{Size, Prefix, FrameType, SlotType, DataType, Uncorrectable, Reserved, HeaderCheck, Format, NotForUs, BlockCount, NoTransaction, BlockCheck, Serial, OtherOctets, Unwritable, StoredCheck, StoredLayout, OtherAddress}
 
 one-zero : ◌≡◌ {A = ℕ} 1 0 → ⊥
 one-zero e = absurd (omega arith)
@@ -26,6 +27,29 @@ numbered = refl
 
 refusal-number : (n : ℕ) → n < 19 → refusal_number (refusal (suc n)) ≡ suc n
 refusal-number n lt = eqb-true _ _ (every_held (λ k. eqb (refusal_number (refusal (suc k))) (suc k)) 19 numbered n lt)
+
+-- no refusal has the number 0
+pub some_number : (r : Refusal) → refusal_number r ≡ 0 → ⊥
+unfolding refusal_number
+some_number Size e = absurd (omega arith)
+some_number Prefix e = absurd (omega arith)
+some_number FrameType e = absurd (omega arith)
+some_number SlotType e = absurd (omega arith)
+some_number DataType e = absurd (omega arith)
+some_number Uncorrectable e = absurd (omega arith)
+some_number Reserved e = absurd (omega arith)
+some_number HeaderCheck e = absurd (omega arith)
+some_number Format e = absurd (omega arith)
+some_number NotForUs e = absurd (omega arith)
+some_number BlockCount e = absurd (omega arith)
+some_number NoTransaction e = absurd (omega arith)
+some_number BlockCheck e = absurd (omega arith)
+some_number Serial e = absurd (omega arith)
+some_number OtherOctets e = absurd (omega arith)
+some_number Unwritable e = absurd (omega arith)
+some_number StoredCheck e = absurd (omega arith)
+some_number StoredLayout e = absurd (omega arith)
+some_number OtherAddress e = absurd (omega arith)
 
 module _ {A : Type 0} where
   abbrev refused : Result A Refusal → ℕ

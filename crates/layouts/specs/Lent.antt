@@ -1,10 +1,17 @@
 -- What a function gives back for its answer, a number and octets: the number, and in lent memory the octets.
 -- Assumes nothing.
-use Rattle.std.specs.Prelude.{◌≡◌, cond, List, ℕ, eqb, length}
+use Rattle.std.specs.Prelude.{◌≡◌, cond, Result, Ok, Err, List, [], ℕ, eqb, length}
+use Rattle.foundation.specs.Refusals.{refusal_number}
+use Rattle.foundation.specs.declared.refusal.Refusal.{Refusal}
 
 -- a number, 0 for none, and octets
 abbrev pub Answer : Type 0
 Answer = ℕ × List ℕ
+
+-- the answer of a result; a refusal has no octets
+unfoldable pub answer_of : Result (List ℕ) Refusal → Answer
+answer_of (Ok octets) = (0, octets)
+answer_of (Err r) = (refusal_number r, [])
 
 -- the number returned: 1 where the lent memory `out` has not n octets
 unfoldable pub given : ℕ → List ℕ → ℕ → ℕ
