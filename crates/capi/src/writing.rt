@@ -77,7 +77,7 @@ pub extern "C" fn kirruskabe_message_block(message: &[u8], n: usize, out: &mut [
 
 // ---- headers, blocks and responses
 
-// The fields that all formats have.
+// The fields that all formats have, at C's places. No From: the places are C's alone.
 fn common_from(f: &[u8]) -> Common
     ensures { result ≡ common_from f.now }
 {
@@ -183,6 +183,7 @@ pub extern "C" fn kirruskabe_write_burst(
     give(out, bursts::burst::write(colour, datatype, *info, s))
 }
 
+// Labels, at C's places. No From, as above.
 fn labels_from(f: &[u8]) -> Labels
     ensures { result ≡ labels_from f.now }
 {
