@@ -121,9 +121,9 @@ fn put_line(
     index: u64,
     t: Transaction,
     a: Result<Answer, Refusal>,
-    store: &[u8],
+    store: &[u8; STORE],
 )
-    requires { HasRoom (line_room listing) out.old × (length store.now ≡ store_size) }
+    requires { HasRoom (line_room listing) out.old }
     ensures { AtMost (line_room listing) (listed_line listing index (record { said = said (told a) store.now; transaction = t })) out.old out.new }
 {
     match listing {
@@ -139,9 +139,9 @@ fn put_delivery(
     index: u64,
     t: Transaction,
     a: Result<Answer, Refusal>,
-    store: &[u8],
+    store: &[u8; STORE],
 )
-    requires { HasRoom 1302 out.old × (length store.now ≡ store_size) }
+    requires { HasRoom 1302 out.old }
     ensures { AtMost 1302 (delivery_line index t (said (told a) store.now)) out.old out.new }
 {
     match a {
@@ -214,11 +214,11 @@ impl Listing {
 fn answer(
     listing: Listing,
     g: Gateway,
-    store: &mut [u8],
+    store: &mut [u8; STORE],
     datagram: &[u8],
     out: &mut Writer,
 ) -> Gateway
-    requires { HasRoom (line_room listing) out.old × (length store.old ≡ store_size) }
+    requires { HasRoom (line_room listing) out.old }
     ensures { (running result store.new ≡ left_by (running g store.old) datagram.now)
         × AtMost (line_room listing) (listed_line listing g.counts.datagrams (outcome_of (running g store.old) datagram.now)) out.old out.new }
 {
@@ -242,12 +242,12 @@ fn answer(
 fn answer_all(
     listing: Listing,
     g: Gateway,
-    store: &mut [u8],
+    store: &mut [u8; STORE],
     octets: &[u8],
     count: usize,
     out: &mut Writer,
 ) -> Gateway
-    requires { (length store.old ≡ store_size) × (53 * count < length octets.now + 53) × HasRoom (line_room listing * count) out.old }
+    requires { (53 * count < length octets.now + 53) × HasRoom (line_room listing * count) out.old }
     ensures { (running result store.new ≡ left_by_all (running g store.old) (cut count octets.now))
         × AtMost (line_room listing * count) (lines_of listing (running g store.old) (cut count octets.now)) out.old out.new }
 {
@@ -298,7 +298,10 @@ pub fn list(
 {
     let size = octets.len();
     let room = text.len();
-    if store.len() != STORE || room < listing.line_room() {
+    let Some(store) = store.as_mut_array::<STORE>() else {
+        return Err(Refusal::Size);
+    };
+    if room < listing.line_room() {
         return Err(Refusal::Size);
     }
     let k = count(listing, size, last, room);

@@ -4,11 +4,11 @@
 ghost use Rattle.std.specs.Prelude.{◌≡◌, cond, [], ◌∷◌, Some, None, ◌+◌, ◌*◌, ◌/◌, ◌≤◌, ltb, length};
 ghost use Rattle.addresses.specs.Octets.{address_at};
 ghost use Rattle.foundation.specs.Order.{all};
-ghost use Rattle.receiver_state.specs.Receiver.{store_size, fresh_for};
+ghost use Rattle.receiver_state.specs.Receiver.{fresh_for};
 ghost use Rattle.stored.specs.Stored.{stored_block};
 ghost use Rattle.texts.specs.Parts.{HasRoom, AtMost};
 ghost use Rattle.logs.specs.Numbers.{code_number};
-ghost use Rattle.logs.specs.Log.{record_of, line_size, state_of};
+ghost use Rattle.logs.specs.Log.{record_of, state_of};
 ghost use Rattle.replays.specs.Log.{records, octets_taken};
 ghost use Rattle.replays.specs.Text.{line_text, report_text, report_room};
 ghost use Rattle.replays.specs.Replay.{line_given, left_by_record, lines_given, left_by_records, replayed, replayed_given, store_replayed, text_replayed};
@@ -115,8 +115,8 @@ fn put_contents(out: &mut Writer, code: Code, contents: &[u8])
 }
 
 // The text of a line in octets: code, length of the contents, contents.
-fn put_line(out: &mut Writer, line: &[u8])
-    requires { HasRoom report_room out.old × (length line.now ≡ line_size) }
+fn put_line(out: &mut Writer, line: &[u8; LINE])
+    requires { HasRoom report_room out.old }
     ensures { AtMost report_room (octets_line line.now) out.old out.new }
 {
     let size = foundation::octets::shorter(256 * (line[1] as usize) + line[2] as usize, CONTENTS);
@@ -170,8 +170,14 @@ fn cut_at(octets: &[u8], at: usize, last: bool) -> Option<Cut>
 }
 
 // The receiver after a record of this kind and these octets, and its line behind the text. A receiver that there can't be refuses it with 1.
-fn answer(rx: Receiver, store: &mut [u8], kind: u8, octets: &[u8], out: &mut Writer) -> Receiver
-    requires { HasRoom report_room out.old × (length store.old ≡ store_size) }
+fn answer(
+    rx: Receiver,
+    store: &mut [u8; STORE],
+    kind: u8,
+    octets: &[u8],
+    out: &mut Writer,
+) -> Receiver
+    requires { HasRoom report_room out.old }
     ensures { (state_of result store.new ≡ left_by_record (state_of rx store.old) (record_of kind octets.now))
         × AtMost report_room (line_text (line_given (state_of rx store.old) (record_of kind octets.now))) out.old out.new }
 {
@@ -191,13 +197,13 @@ fn answer(rx: Receiver, store: &mut [u8], kind: u8, octets: &[u8], out: &mut Wri
 // The first records of the octets that have come, at most so many, and their lines behind the text.
 fn answer_all(
     rx: Receiver,
-    store: &mut [u8],
+    store: &mut [u8; STORE],
     octets: &[u8],
     last: bool,
     most: usize,
     out: &mut Writer,
 ) -> Replayed
-    requires { (length store.old ≡ store_size) × HasRoom (report_room * most) out.old }
+    requires { HasRoom (report_room * most) out.old }
     ensures { (state_of result.receiver store.new ≡ left_by_records (state_of rx store.old) (records last most octets.now))
         × AtMost (report_room * most) (report_text (lines_given (state_of rx store.old) (records last most octets.now))) out.old out.new
         × (result.end ≡ out.new.end) × (result.taken ≡ octets_taken last most octets.now) × (result.taken ≤ length octets.now) }
@@ -236,7 +242,10 @@ pub fn replay(
         × ReplayClaims (state_of rx store.old) octets.now last text.old (replayed rx store.old octets.now last text.old) store.new text.new }
 {
     let room = text.len();
-    if store.len() != STORE || room < ROOM {
+    let Some(store) = store.as_mut_array::<STORE>() else {
+        return Err(Refusal::Size);
+    };
+    if room < ROOM {
         return Err(Refusal::Size);
     }
     let mut out = Writer::new(text);

@@ -1,4 +1,4 @@
--- Text in octets (ASCII): numbers in decimal, octets in hexadecimal, and where a text ends that is written at a place.
+-- Text in octets (ASCII): numbers in decimal, octets in hexadecimal, where a text ends that is written at a place, and what is written behind one.
 -- Assumes nothing.
 use Rattle.std.specs.Prelude.{◌≡◌, cond, List, [], ◌∷◌, ◌++◌, ℕ, zero, suc, ◌+◌, ◌/◌, eqb, leb, ltb, length}
 use Rattle.foundation.specs.Octets.{put}

@@ -17,12 +17,12 @@ returns-in-Ok c =
     let r = record_of a.kind a.octets.now in
     let e = c.in-Ok.ensures in
     let eight : length a.rx.flags.octets ≡ flag_octet_count = search (rules, c.well_formed) in
-    let told = store_told a.rx a.store.now r _ c.requires.1 refl _ _ e.1 e.2 a.out.now a.out.now _ e.0 in
-    taken_step a.rx a.store.now r _ c.requires.1 refl _ _ e.1 e.2 a.out.now _ _ e.0
-    (line_text_lem s r (omega (arith, c.requires.1)) (omega (arith, c.requires.1, c.record.auto.store, ap length told)) eight) c.put_line.ensures
+    let told = store_told a.rx a.store.now r _ (omega arith) refl _ _ e.1 e.2 a.out.now a.out.now _ e.0 in
+    taken_step a.rx a.store.now r _ (omega arith) refl _ _ e.1 e.2 a.out.now _ _ e.0
+    (line_text_lem s r (omega arith) (omega (arith, ap length told)) eight) c.put_line.ensures
 
 pub returns-in-Err : goal.returns-in-Err
 returns-in-Err c =
     let a = c.args in
     let e = c.in-Err.ensures in
-    refused-step a.rx a.store.now (record_of a.kind a.octets.now) _ c.requires.1 refl _ _ e.1 e.2 a.out.now _ _ e.0 _ c.number.ensures c.put_refusal.ensures
+    refused-step a.rx a.store.now (record_of a.kind a.octets.now) _ (omega arith) refl _ _ e.1 e.2 a.out.now _ _ e.0 _ c.number.ensures c.put_refusal.ensures

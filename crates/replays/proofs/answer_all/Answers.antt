@@ -1,13 +1,14 @@
 -- `replays::answer_all` meets its contract.
 -- Assumes nothing.
-use mathlib.Core.Path.{refl, ◌∙◌}
+use mathlib.Core.Path.{refl}
+use native.Mathlib.Omega.{arith}
 use Rattle.logs.specs.Log.{state_of}
 use Rattle.replays.proofs.Runs.{midway_start, midway_room, midway_more, midway_end, midway_last}
 use Rattle.replays.proofs.answer_all.Goals as goal
 
 pub loop-i-init : goal.loop-i-init
 loop-i-init c =
-    let a = c.args in (midway_start (state_of a.rx a.store.now) a.octets.now a.last a.most a.out.now c.requires.0, refl)
+    let a = c.args in (midway_start (state_of a.rx a.store.now) a.octets.now a.last a.most a.out.now (omega arith), refl)
 
 pub returns-in_default : goal.returns-in_default
 returns-in_default c =
@@ -20,19 +21,17 @@ returns-in_default c =
 pub answer-receiver-requires : goal.answer-receiver-requires
 answer-receiver-requires c =
     let a = c.args in
-    let l = c.loop-i in (
-      midway_room (state_of a.rx a.store.now) a.octets.now a.last a.most a.out.now l.i l.now.taken (state_of l.now.receiver l.store) l.out l.invariant.0
-          c.requires.1 c.loop-i-test.true,
-      l.invariant.0.room,
-    )
+    let l = c.loop-i in
+    midway_room (state_of a.rx a.store.now) a.octets.now a.last a.most a.out.now l.i l.now.taken (state_of l.now.receiver l.store) l.out l.invariant.0
+    c.requires c.loop-i-test.true
 
 pub loop-i-preserved : goal.loop-i-preserved
 loop-i-preserved c =
     let a = c.args in
     let l = c.loop-i in
-    let w = c.answer-receiver in (
+    let w = c.answer-receiver.ensures in (
       midway_more (state_of a.rx a.store.now) a.octets.now a.last a.most a.out.now l.i l.now.taken (state_of l.now.receiver l.store) l.out l.invariant.0
-          c.requires.1 c.in-Some.c c.loop-i-test.true c.in-Some.ensures _ _ w.ensures.0 w.ensures.1 (w.auto.store ∙ l.invariant.0.room),
+          c.requires c.in-Some.c c.loop-i-test.true c.in-Some.ensures _ _ w.0 w.1 (omega arith),
       refl,
     )
 
