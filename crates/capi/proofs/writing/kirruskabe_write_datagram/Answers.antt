@@ -38,7 +38,7 @@ returns c =
     let a = c.args in
     let l = labels_from a.labels.now in
     let w : DatagramOctets = write_datagram l a.colour a.datatype a.info.now (sync_of a.sync) in
-    let labels = c.labels_from.ensures in
+    let labels = c.labels_from-l.ensures in
     let info = c.in-Some.ensures.cases in
     let sync = c.sync_of-s.ensures in
     behind_as w.number w.number w.octets _
