@@ -15,19 +15,18 @@ pub extern "C" fn kirruskabe_write_slot_type(octet: u8) -> u32
     codes::slot_type::write(octet)
 }
 
+fn alone(octet: u8) -> [u8; 1]
+    ensures { result ≡ octet ∷ [] }
+{
+    [octet]
+}
+
 // The data octet of a word within 3 bits of a codeword.
 #[unsafe(no_mangle)]
 pub extern "C" fn kirruskabe_read_slot_type(word: u32, out: &mut [u8]) -> u8
     ensures { Gives 1 (slot_read word) out.old result out.new }
 {
-    give(
-        out,
-        codes::slot_type::read(word).map(
-            |octet| -> [u8; 1]
-                ensures { result ≡ octet ∷ [] }
-            { [octet] },
-        ),
-    )
+    give(out, codes::slot_type::read(word).map(alone))
 }
 
 // A block field.

@@ -10,7 +10,7 @@ use bursts::burst::Burst;
 use datagrams::Datagram;
 use layouts::fields::{header_octets, label_octets};
 use layouts::lent::give;
-use messages::response::ResponseFields;
+use messages::response::{self, ResponseFields};
 use packets::block::Block;
 
 fn datagram_octets(d: Datagram) -> [u8; 31]
@@ -79,8 +79,5 @@ pub extern "C" fn kirruskabe_read_block(block: &[u8], out: &mut [u8]) -> u8
 pub extern "C" fn kirruskabe_read_response(header: &[u8], block: &[u8], out: &mut [u8]) -> u8
     ensures { Gives 18 (response_read header.now block.now) out.old result out.new }
 {
-    give(
-        out,
-        messages::response::read(header, block).map(response_octets),
-    )
+    give(out, response::read(header, block).map(response_octets))
 }

@@ -15,7 +15,7 @@ use foundation::octets::at;
 use foundation::refusal::Refusal;
 use layouts::lent::give;
 use messages::message::Size;
-use messages::response::ResponseOctets;
+use messages::response::{self, ResponseOctets};
 use packets::header::{Common, Header};
 
 // ---- messages
@@ -154,10 +154,7 @@ pub extern "C" fn kirruskabe_write_response(
     }
     let kind = layouts::fields::reply_of(reply);
     let d = layouts::fields::delivery(sap, ns, destination, source);
-    give(
-        out,
-        messages::response::write(kind, d, *flags).map(header_and_block),
-    )
+    give(out, response::write(kind, d, *flags).map(header_and_block))
 }
 
 // ---- bursts and datagrams
@@ -219,11 +216,9 @@ pub extern "C" fn kirruskabe_write_datagram(
     if 1 < sync {
         return give::<53>(out, Err(Refusal::Unwritable));
     }
+    let l = labels_from(labels);
     let s = layouts::fields::sync_of(sync);
-    give(
-        out,
-        datagrams::write(labels_from(labels), colour, datatype, *info, s),
-    )
+    give(out, datagrams::write(l, colour, datatype, *info, s))
 }
 
 // The sequence counter of the next datagram.

@@ -40,7 +40,7 @@ module _ (n : ℕ) (a : Answer) (out : List ℕ) where
       (λ e. subst (λ (x : ℕ). Gives n a out x out) h (refused (eqb-true (length out) n e) (λ z. omega arith)))
       (λ e. another_size (λ size. let z : true ≡ false = sym (eq-eqb (length out) n size) ∙ e in absurd (let y : ◌≡◌ {A = ℕ} 0 1 = cc in omega arith)))
 
-module _ (n : ℕ) (out after : List ℕ) (r : ℕ) where
+module _ {n r : ℕ} {out after : List ℕ} where
   -- the octets of a refusal are given nowhere
   pub any_octets : (number : ℕ) (os octets : List ℕ) → (number ≡ 0 → ⊥) → Gives n (number, os) out r after → Gives n (number, octets) out r after
   unfolding given filled
@@ -50,11 +50,11 @@ module _ (n : ℕ) (out after : List ℕ) (r : ℕ) where
       record { returned = g.returned; holds = g.holds ∙ same }
 
   -- an answer by the result that is made of it
-  pub by_outcome : (number : ℕ) (octets : List ℕ) (given : Result (List ℕ) Refusal) → given ≡ outcome number octets → number < 20
+  pub by_outcome : (number : ℕ) (octets : List ℕ) {given : Result (List ℕ) Refusal} → given ≡ outcome number octets → number < 20
       → Gives n (answer_of given) out r after → Gives n (number, octets) out r after
   unfolding answer_of outcome
-  by_outcome zero octets given e few g = subst (λ (x : Result (List ℕ) Refusal). Gives n (answer_of x) out r after) e g
-  by_outcome (suc k) octets given e few g =
+  by_outcome zero octets e few g = subst (λ (x : Result (List ℕ) Refusal). Gives n (answer_of x) out r after) e g
+  by_outcome (suc k) octets e few g =
       let some : suc k ≡ 0 → ⊥ = λ z. omega arith in
       let back : refusal_number (refusal (suc k)) ≡ suc k = number_err (suc k) octets _ few refl in
       any_octets (suc k) [] octets some

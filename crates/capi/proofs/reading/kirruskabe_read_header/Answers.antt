@@ -23,11 +23,11 @@ unfolding header_read header_found read_header
 found h out after r g =
     let n = first_failed (header_tests h) in
     either (eqb n 0) (λ t. rw t (gives_as refl (ap (λ (x : ℕ). (x, header_octets (header_of h))) (eqb-true n 0 t)) g))
-    (λ t. rw t (any_octets _ _ _ _ n _ _ (eqb-false n 0 t) g))
+    (λ t. rw t (any_octets n _ _ (eqb-false n 0 t) g))
 
 pub returns : goal.returns
 returns c =
     let h = c.args.header.now in
     let n = first_failed (header_tests h) in
     found h _ _ _
-    (by_outcome _ _ _ _ n (header_octets (header_of h)) _ (made_of _ _ _ n (header_of h) _ (c.read.ensures ∙ given_is h) c.map.ensures.cases (λ y p. p)) (header_read_few h) c.give.ensures)
+    (by_outcome n (header_octets (header_of h)) (made_of _ n (header_of h) _ (c.read.ensures ∙ given_is h) c.map.ensures.cases (λ y p. p)) (header_read_few h) c.give.ensures)

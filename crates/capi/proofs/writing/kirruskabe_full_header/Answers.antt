@@ -16,5 +16,5 @@ returns c =
     let a = c.args in
     let d = delivery_of a.sap a.ns a.destination a.source in
     let w = full_header a.octets d in
-    by_outcome _ _ _ _ w.number w.octets _ (c.full_header.ensures ∙ ap (λ (x : Delivery). header_octets_given (full_header a.octets x)) c.delivery-d.ensures)
+    by_outcome w.number w.octets (c.full_header.ensures ∙ ap (λ (x : Delivery). header_octets_given (full_header a.octets x)) c.delivery-d.ensures)
     (full_few a.octets d) c.give.ensures

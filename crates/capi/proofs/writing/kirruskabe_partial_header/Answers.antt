@@ -16,5 +16,5 @@ returns c =
     let a = c.args in
     let d = delivery_of a.sap a.ns a.destination a.source in
     let w = partial_header a.octets d a.count in
-    by_outcome _ _ _ _ w.number w.octets _ (c.partial_header.ensures ∙ ap (λ (x : Delivery). header_octets_given (partial_header a.octets x a.count)) c.delivery-d.ensures)
+    by_outcome w.number w.octets (c.partial_header.ensures ∙ ap (λ (x : Delivery). header_octets_given (partial_header a.octets x a.count)) c.delivery-d.ensures)
     (partial_few a.octets d a.count) c.give.ensures
