@@ -58,7 +58,8 @@ pub fn start(own: &[u8]) -> Gateway
     }
 }
 
-// ---- lines: each function writes behind a text where there is room
+// ---- lines: each function writes behind a text. That there is room is asked of callers: it hangs on the line, so that no type can say it,
+// and a line written in part would be none.
 
 // Index and number of a datagram.
 fn put_number(out: &mut Writer, index: u64, number: u8)
@@ -238,7 +239,8 @@ fn answer(
     }
 }
 
-// The gateway after the first datagrams of the octets, so many, and their lines behind the text.
+// The gateway after the first datagrams of the octets, so many, and their lines behind the text. (replays has the like over records, which
+// say their length themselves: by another definition, with nothing in common but the loop.)
 fn answer_all(
     listing: Listing,
     g: Gateway,

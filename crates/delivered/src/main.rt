@@ -7,6 +7,7 @@ use captures::Listing;
 use inputs::programs;
 use std::env::Env;
 
+// The same in gateway, but for two words: a program has its own main.
 fn main(rt: HostRuntime) {
     if programs::called_alone(&rt, rt.arg(1, &mut [0; 1]), "delivered", "CAPTURE") {
         let done = listings::list(&mut rt.stdin(), &mut rt.stdout(), Listing::Deliveries);

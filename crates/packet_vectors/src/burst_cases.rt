@@ -30,6 +30,7 @@ fn written<W: Write>(report: &mut Report<W>, text: &str, sync: Sync, expected: &
     report.octets("writing a burst, ", text, &octets, expected);
 }
 
+// The data type stays a number, one that the writer refuses among them.
 fn not_written<W: Write>(report: &mut Report<W>, text: &str, colour: u8, datatype: u8)
     ensures { MoreCases 1 report.old.tally report.new.tally }
 {

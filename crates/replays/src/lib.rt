@@ -50,9 +50,10 @@ pub fn start(own: &[u8]) -> Receiver
     receiver_state::idle(addresses::address_at(own, 0))
 }
 
-// ---- text: each function writes behind a text that has room for a line
+// ---- text: each function writes behind a text. That it has room for a line is asked of callers, as in captures, and that the contents are no
+// more than a line has: a type for them would stand between put_line and four functions only.
 
-// A refusal: its number.
+// A refusal: its number, an octet of the line, any of them.
 fn put_refusal(out: &mut Writer, number: u8)
     requires { HasRoom report_room out.old }
     ensures { AtMost report_room (code_text 0 (number ∷ [])) out.old out.new }
@@ -169,7 +170,8 @@ fn cut_at(octets: &[u8], at: usize, last: bool) -> Option<Cut>
     })
 }
 
-// The receiver after a record of this kind and these octets, and its line behind the text. A receiver that there can't be refuses it with 1.
+// The receiver after a record of this kind (a number, as in a cut) and these octets, and its line behind the text. A receiver that there
+// can't be refuses it with 1.
 fn answer(
     rx: Receiver,
     store: &mut [u8; STORE],
