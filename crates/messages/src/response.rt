@@ -73,7 +73,7 @@ fn header_of(reply: Reply, d: Delivery) -> Header
     }
 }
 
-// The data block of a SACK.
+// The data block of a SACK. Its flags are octets here and below: those of a block as it is sent, whatever set them.
 fn sack_data(flags: [u8; 8]) -> [u8; 12]
     ensures { result ≡ sack_data flags }
 {

@@ -24,6 +24,7 @@ pub fn arrival_of(datagram: &[u8]) -> Result<Arrival, Refusal>
     ensures { result ≡ arrival_given (arrival_of datagram.now) }
 {
     let d = datagrams::read(datagram)?;
+    // By a variable: the borrow checker doesn't take an array that one field gives another yet.
     let octets = d.info;
     Ok(Arrival {
         kind: Kind::from(d.datatype),

@@ -73,7 +73,7 @@ fn digit(d: u8) -> u8
     if d < 10 { b'0' + d } else { b'a' + (d - 10) }
 }
 
-// Two digits an octet, where there is room.
+// Two digits an octet, where there is room. No method: of the writer it needs the memory alone, and its one caller moves the end on.
 fn put_digits(text: &mut [u8], at: usize, octets: &[u8])
     requires { at + 2 * length octets.now ≤ length text.old }
     ensures { text.new ≡ put text.old at (hexadecimal octets.now) }
