@@ -1,14 +1,14 @@
 -- Datagrams in order: a run part of the way through, and the lines that are written.
 -- Assumes nothing.
-use mathlib.Core.Path.{◌≡◌, refl, sym, ap, subst, ◌∙◌}
+use mathlib.Core.Path.{◌≡◌, refl, sym, ap, ap₂, subst, ◌∙◌}
 use mathlib.Core.List.{List, [], ◌∷◌, ◌++◌, append-nil, append_assoc}
-use Prim.Native.Nat.{ℕ, suc, ◌+◌, ◌*◌, ◌-◌, ◌%◌, ◌^◌, ◌≤◌, ◌<◌, min}
+use Prim.Native.Nat.{ℕ, zero, suc, ◌+◌, ◌*◌, ◌-◌, ◌%◌, ◌^◌, ◌≤◌, ◌<◌, min}
 use native.Mathlib.Nat.{mul-add, mul-one, mul-le-mul_left}
 use native.Mathlib.Omega.{arith}
-use lib.ListN.{length, take, drop, length-append, length-drop}
-use lib.Seq.{drop-drop}
-use Rattle.foundation.proofs.Copying.{length-put, take_shorter}
-use Rattle.receiver_state.specs.Receiver.{store_size}
+use lib.ListN.{length, take, drop, length-append}
+use lib.Seq.{take-append_seam, drop-append_seam}
+use Rattle.std.proofs.lemmas.List.{take_min, drop_min}
+use Rattle.foundation.proofs.Copying.{length-put}
 use Rattle.texts.specs.Parts.{HasRoom, Wrote, AtMost}
 use Rattle.texts.specs.declared.Writer.{Writer}
 use Rattle.texts.proofs.Writing.{wrote_none, behind}
@@ -78,94 +78,95 @@ answered-step l g store d x store' c w w' ex es ec p =
       subst (λ (o : Outcome). AtMost (line_room l) (listed_line l g.counts.datagrams o) w w') outcome p,
     )
 
--- the datagram at a place
-cut_more : (octets : List ℕ) (count i : ℕ) → i < count
-    → cut (count - i) (drop (datagram_size * i) octets)
-    ≡ take datagram_size (drop (datagram_size * i) octets) ∷ cut (count - (i + 1)) (drop (datagram_size * (i + 1)) octets)
+-- the next datagram is the first of the octets that are left, or all of them
+cut_more : (k k' : ℕ) (d rest rest' : List ℕ) → k' + 1 ≡ k → rest ≡ d ++ rest' → length d ≡ min datagram_size (length rest) → cut k rest ≡ d ∷ cut k' rest'
 unfolding cut
-cut_more octets count i h =
-    let e : count - i ≡ suc (count - (i + 1)) = omega arith in
-    let p : datagram_size * i + datagram_size ≡ datagram_size * (i + 1) = omega arith in
-    rw e (ap (λ (x : List ℕ). take datagram_size (drop (datagram_size * i) octets) ∷ cut (count - (i + 1)) x)
-    (drop-drop datagram_size (datagram_size * i) octets ∙ ap (λ (k : ℕ). drop k octets) p))
+cut_more k k' d rest rest' h parts size =
+    let e : k ≡ suc k' = omega arith in
+    let first : take datagram_size rest ≡ d =
+    sym (take_min datagram_size rest) ∙ ap (λ (n : ℕ). take n rest) (sym size) ∙ ap (take (length d)) parts ∙ take-append_seam d rest' in
+    let later : drop datagram_size rest ≡ rest' =
+    sym (drop_min datagram_size rest) ∙ ap (λ (n : ℕ). drop n rest) (sym size) ∙ ap (drop (length d)) parts ∙ drop-append_seam d rest' in
+    rw e (ap₂ (λ (x : List ℕ) (y : List ℕ). x ∷ cut k' y) first later)
 
--- a datagram begins inside the octets, and ends there or with them
-pub datagram-at : (octets : List ℕ) (i k : ℕ) → k ≡ min datagram_size (length octets - datagram_size * i)
-    → take k (drop (datagram_size * i) octets) ≡ take datagram_size (drop (datagram_size * i) octets)
-datagram-at octets i k e =
-    ap (λ (n : ℕ). take n (drop (datagram_size * i) octets)) (e ∙ ap (min datagram_size) (sym (length-drop (datagram_size * i) octets)))
-    ∙ take_shorter datagram_size (drop (datagram_size * i) octets)
+-- none is to come where no octets are left
+none_left : (k n : ℕ) → datagram_size * k < n + datagram_size → (0 < k → n ≡ 0) → k ≡ 0
+none_left zero n c h = refl
+none_left (suc k) n c h = let e = h (omega arith) in absurd (omega (arith, e, c))
 
 -- ---- part of the way through
 
--- i of the datagrams are answered and their lines stand behind the text; what is left leads to where the whole leads
-pub record Midway (l : Listing) (g : Gateway) (store octets : List ℕ) (count : ℕ) (w : Writer) (i : ℕ) (now : Gateway) (store' : List ℕ) (w' : Writer) : Type 0 where
+-- some of the datagrams are answered and their lines stand behind the text, k are to come from the rest of the octets; what is left leads to where
+-- the whole leads
+pub record Midway (l : Listing) (g : Gateway) (store octets : List ℕ) (count : ℕ) (w : Writer) (k : ℕ) (rest : List ℕ) (now : Gateway) (store' : List ℕ) (w' : Writer) : Type 0 where
   pub done : List ℕ
-  pub part : i ≤ count
-  pub room : length store' ≡ store_size
+  pub part : k ≤ count
+  pub come : datagram_size * k < length rest + datagram_size
   pub wrote : Wrote done w w'
-  pub few : length done ≤ line_room l * i
-  pub left : left_by_all (running g store) (cut count octets) ≡ left_by_all (running now store') (cut (count - i) (drop (datagram_size * i) octets))
-  pub lines : lines_of l (running g store) (cut count octets) ≡ done ++ lines_of l (running now store') (cut (count - i) (drop (datagram_size * i) octets))
+  pub few : length done ≤ line_room l * (count - k)
+  pub left : left_by_all (running g store) (cut count octets) ≡ left_by_all (running now store') (cut k rest)
+  pub lines : lines_of l (running g store) (cut count octets) ≡ done ++ lines_of l (running now store') (cut k rest)
 
 module _ (l : Listing) (g : Gateway) (store octets : List ℕ) (count : ℕ) (w : Writer) where
-  pub midway_start : length store ≡ store_size → Midway l g store octets count w 0 g store w
-  midway_start h =
-      let e : count - 0 ≡ count = omega arith in
-      record {
-        done = [];
-        part = omega arith;
-        room = h;
-        wrote = wrote_none w;
-        few = omega arith;
-        left = rw e;
-        lines = rw e;
-      }
+  pub midway_start : (k : ℕ) (rest : List ℕ) → k ≡ count → rest ≡ octets → datagram_size * count < length octets + datagram_size
+      → Midway l g store octets count w k rest g store w
+  midway_start k rest ek er c = record {
+    done = [];
+    part = omega (arith, ek);
+    come = omega (arith, ek, ap length er, c);
+    wrote = wrote_none w;
+    few = omega arith;
+    left = rw (ek, er);
+    lines = rw (ek, er);
+  }
 
-  module _ (i : ℕ) (now : Gateway) (store' : List ℕ) (w' : Writer) (m : Midway l g store octets count w i now store' w') where
+  module _ (k : ℕ) (rest : List ℕ) (now : Gateway) (store' : List ℕ) (w' : Writer) (m : Midway l g store octets count w k rest now store' w') where
     -- a line more has room
-    one_more : i < count → line_room l * (i + 1) ≤ line_room l * count
-    one_more h = mul-le-mul_left (line_room l) (omega arith)
+    one_more : (k' : ℕ) → k' + 1 ≡ k → line_room l * (count - k') ≤ line_room l * count
+    one_more k' h = mul-le-mul_left (line_room l) (omega arith)
 
-    so_many : line_room l * (i + 1) ≡ line_room l * i + line_room l
-    so_many = mul-add (line_room l) i 1 ∙ ap (λ (k : ℕ). line_room l * i + k) (mul-one (line_room l))
+    so_many : (k' : ℕ) → k' + 1 ≡ k → line_room l * (count - k') ≡ line_room l * (count - k) + line_room l
+    so_many k' h =
+        let e : count - k' ≡ count - k + 1 = omega (arith, m.part) in
+        ap (λ (n : ℕ). line_room l * n) e ∙ mul-add (line_room l) (count - k) 1 ∙ ap (λ (n : ℕ). line_room l * (count - k) + n) (mul-one (line_room l))
 
-    pub midway_room : i < count → HasRoom (line_room l * count) w → HasRoom (line_room l) w'
-    midway_room h room = omega (arith, one_more h, so_many, m.wrote.end, m.few, ap length m.wrote.text, length-put w.text.now w.end m.done)
+    pub midway_room : (k' : ℕ) → k' + 1 ≡ k → HasRoom (line_room l * count) w → HasRoom (line_room l) w'
+    midway_room k' h room = omega (arith, one_more k' h, so_many k' h, m.wrote.end, m.few, ap length m.wrote.text, length-put w.text.now w.end m.done)
 
-    pub midway_more : (d : List ℕ) → i < count → d ≡ take datagram_size (drop (datagram_size * i) octets) → HasRoom (line_room l * count) w
+    pub midway_more : (k' : ℕ) → k' + 1 ≡ k → (d rest' : List ℕ) → rest ≡ d ++ rest' → length d ≡ min datagram_size (length rest) → HasRoom (line_room l * count) w
         → (now'' : Gateway) (store'' : List ℕ) (w'' : Writer) → running now'' store'' ≡ left_by (running now store') d
         → AtMost (line_room l) (listed_line l now.counts.datagrams (outcome_of (running now store') d)) w' w''
-        → length store'' ≡ store_size → Midway l g store octets count w (i + 1) now'' store'' w''
+        → Midway l g store octets count w k' rest' now'' store'' w''
     unfolding left_by_all
-    midway_more d h e room now'' store'' w'' left p size =
+    midway_more k' h d rest' parts size room now'' store'' w'' left p =
         let s = running now store' in
         let line = listed_line l now.counts.datagrams (outcome_of s d) in
-        let later = cut (count - (i + 1)) (drop (datagram_size * (i + 1)) octets) in
-        let step = cut_more octets count i h ∙ ap (λ (x : List ℕ). x ∷ later) (sym e) in
-        let most = one_more h in
+        let later = cut k' rest' in
+        let step : cut k rest ≡ d ∷ later = cut_more k k' d rest rest' h parts size in
+        let most = one_more k' h in
+        let many = so_many k' h in
         let long : length line ≤ line_room l = omega (arith, p.wrote.end, p.most) in
         record {
           done = m.done ++ line;
-          part = omega arith;
-          room = size;
-          wrote = behind m.done line w w' w'' (omega (arith, m.few, most, so_many)) m.wrote p.wrote;
-          few = omega (arith, m.few, length-append m.done line, so_many);
+          part = omega (arith, m.part);
+          come = omega (arith, m.come, size, ap length parts, length-append d rest');
+          wrote = behind m.done line w w' w'' (omega (arith, m.few, most, many)) m.wrote p.wrote;
+          few = omega (arith, m.few, length-append m.done line, many);
           left = m.left ∙ ap (left_by_all s) step ∙ ap (λ (x : Running). left_by_all x later) (sym left);
           lines = m.lines ∙ ap (λ (ds : List (List ℕ)). m.done ++ lines_of l s ds) step
               ∙ ap (λ (x : List ℕ). m.done ++ x) (lines_cons l s d later ∙ ap (λ (x : Running). line ++ lines_of l x later) (sym left))
               ∙ sym (append_assoc m.done line (lines_of l (running now'' store'') later));
         }
 
-    pub midway_end : count ≤ i → (running now store' ≡ left_by_all (running g store) (cut count octets))
+    pub midway_end : (0 < k → length rest ≡ 0) → (running now store' ≡ left_by_all (running g store) (cut count octets))
         × AtMost (line_room l * count) (lines_of l (running g store) (cut count octets)) w w'
     unfolding cut left_by_all
     midway_end h =
-        let e : count - i ≡ 0 = omega arith in
+        let e : k ≡ 0 = none_left k (length rest) m.come h in
         let whole : lines_of l (running g store) (cut count octets) ≡ m.done =
         rw e at m.lines ∙ ap (λ (x : List ℕ). m.done ++ x) (lines_none l (running now store')) ∙ append-nil m.done in
-        let same : i ≡ count = omega (arith, m.part) in
-        let few : length m.done ≤ line_room l * count = subst (λ (k : ℕ). length m.done ≤ line_room l * k) same m.few in (
+        let same : count - k ≡ count = omega (arith, e) in
+        let few : length m.done ≤ line_room l * count = subst (λ (n : ℕ). length m.done ≤ line_room l * n) same m.few in (
           sym (rw e at m.left),
           subst (λ (x : List ℕ). AtMost (line_room l * count) x w w') (sym whole) (record { wrote = m.wrote; most = omega (arith, m.wrote.end, few) }),
         )

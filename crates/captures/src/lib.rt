@@ -253,12 +253,9 @@ fn answer_all(
     ensures { (running result store.new ≡ left_by_all (running g store.old) (cut count octets.now))
         × AtMost (line_room listing * count) (lines_of listing (running g store.old) (cut count octets.now)) out.old out.new }
 {
-    let size = octets.len();
     let mut now = g;
-    for i in 0..count {
-        let at = DATAGRAM * i;
-        let next = at + foundation::octets::shorter(DATAGRAM, size - at);
-        now = answer(listing, now, store, &octets[at..next], out);
+    for datagram in octets.chunks(DATAGRAM).take(count) {
+        now = answer(listing, now, store, datagram, out);
     }
     now
 }
