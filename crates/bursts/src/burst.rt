@@ -134,13 +134,6 @@ fn sync_bits(sync: Sync) -> u64
     }
 }
 
-// The low eight bits of a word: a cast may lose none, so that the cast alone would not do in its four places.
-fn low(x: u64) -> u8
-    ensures { result ≡ x % 256 }
-{
-    (x % 256) as u8
-}
-
 // Octet j of a burst with this block field, slot type and sync.
 fn burst_octet(f: &[u8], slot: u64, sync: u64, j: usize) -> u8
     requires { (length f.now ≡ 25) × (j < 33) }
@@ -148,11 +141,11 @@ fn burst_octet(f: &[u8], slot: u64, sync: u64, j: usize) -> u8
 {
     match j {
         0..=11 => f[j],
-        12 => f[12] / 64 * 64 + low((slot >> 14) % 64),
-        13 => low((slot >> 10) % 16 * 16 + (sync >> 44) % 16),
-        14..=18 => low(sync >> (148 - 8 * j)),
-        19 => low(sync % 16 * 16 + (slot >> 6) % 16),
-        20 => low(slot % 64 * 4) + f[12] / 16 % 4,
+        12 => f[12] / 64 * 64 + ((slot >> 14) % 64) as u8,
+        13 => ((slot >> 10) % 16 * 16 + (sync >> 44) % 16) as u8,
+        14..=18 => ((sync >> (148 - 8 * j)) % 256) as u8,
+        19 => (sync % 16 * 16 + (slot >> 6) % 16) as u8,
+        20 => (slot % 64 * 4) as u8 + f[12] / 16 % 4,
         _ => f[j - 9] % 16 * 16 + f[j - 8] / 16,
     }
 }
@@ -170,7 +163,7 @@ fn burst_octets(f: &[u8], slot: u64, sync: u64) -> [u8; 33]
     b
 }
 
-// The octets of a burst for a colour code and a data type of four bits each; a number, as write has it.
+// The octets of a burst for a colour code and a data type of four bits each. The data type stays a number, as in `write`.
 fn written(colour: u8, datatype: u8, info: [u8; 12], sync: Sync) -> [u8; 33]
     requires { (colour < 16) × (datatype < 16) }
     ensures { result ≡ written_burst colour datatype info sync }
@@ -181,7 +174,7 @@ fn written(colour: u8, datatype: u8, info: [u8; 12], sync: Sync) -> [u8; 33]
 }
 
 // Writes a burst. With wrong bits that the codes put right it comes back. The data type stays a number: any is taken, and refused if it is
-// neither 6 nor 7.
+// neither 6 nor 7. It stands beside colour and octets, not in a Burst, as C gives the three.
 pub fn write(colour: u8, datatype: u8, info: [u8; 12], sync: Sync) -> Result<[u8; 33], Refusal>
     ensures gives { result ≡ burst_octets_given (write_burst colour datatype info sync) }
     ensures comes_back { IfOk result (λ octets. BurstComesBack colour datatype info octets) }

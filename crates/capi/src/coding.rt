@@ -35,7 +35,7 @@ pub extern "C" fn kirruskabe_write_field(info: &[u8], out: &mut [u8]) -> u8
     ensures { Gives 25 (field_written info.now) out.old result out.new }
 {
     let Some(info) = info.as_array::<12>() else {
-        return 1;
+        return crate::SIZE;
     };
     give(out, Ok(codes::block_field::write(*info)))
 }

@@ -6,19 +6,8 @@ ghost use Rattle.forms.specs.Forms.{fresh_number, after_fresh, an_event, a_datag
 ghost use Rattle.capi.specs.Events.{address_of, Acts};
 
 use addresses::RadioAddress;
-use foundation::refusal::Refusal;
+use foundation::refusal::number_of;
 use stored::stamp::Stamp;
-
-// The number that C gets: 0, or that of the refusal.
-#[tactic(auto, unfolding(foundation::specs::Refusals::number_given))]
-fn number(given: Result<(), Refusal>) -> u8
-    ensures { result ≡ number_given given }
-{
-    match given {
-        Ok(()) => 0,
-        Err(refusal) => refusal.number(),
-    }
-}
 
 // The stored form of a fresh receiver.
 #[unsafe(no_mangle)]
@@ -26,7 +15,7 @@ pub extern "C" fn kirruskabe_fresh(own: u32, stamp: u16, form: &mut [u8]) -> u8
     ensures { (result ≡ fresh_number (address_of own) form.old)
         × (form.new ≡ after_fresh (address_of own) (stamp / 256) (stamp % 256) form.old) }
 {
-    number(forms::fresh_form(RadioAddress(own), Stamp::from(stamp), form))
+    number_of(&forms::fresh_form(RadioAddress(own), Stamp::from(stamp), form))
 }
 
 // The octets of a datagram.
@@ -39,7 +28,7 @@ pub extern "C" fn kirruskabe_on_datagram(
 ) -> u8
     ensures { Acts (a_datagram datagram.now) stamp form.old line.old result form.new line.new }
 {
-    number(forms::on_datagram(form, Stamp::from(stamp), datagram, line))
+    number_of(&forms::on_datagram(form, Stamp::from(stamp), datagram, line))
 }
 
 // The octets of a header.
@@ -52,7 +41,7 @@ pub extern "C" fn kirruskabe_on_header(
 ) -> u8
     ensures { Acts (an_event (header octets.now)) stamp form.old line.old result form.new line.new }
 {
-    number(forms::on_header(form, Stamp::from(stamp), octets, line))
+    number_of(&forms::on_header(form, Stamp::from(stamp), octets, line))
 }
 
 // The octets of a block.
@@ -65,7 +54,7 @@ pub extern "C" fn kirruskabe_on_block(
 ) -> u8
     ensures { Acts (an_event (block octets.now)) stamp form.old line.old result form.new line.new }
 {
-    number(forms::on_block(form, Stamp::from(stamp), octets, line))
+    number_of(&forms::on_block(form, Stamp::from(stamp), octets, line))
 }
 
 // An end of attempt.
@@ -73,5 +62,5 @@ pub extern "C" fn kirruskabe_on_block(
 pub extern "C" fn kirruskabe_on_end(form: &mut [u8], stamp: u16, line: &mut [u8]) -> u8
     ensures { Acts (an_event ended) stamp form.old line.old result form.new line.new }
 {
-    number(forms::on_end(form, Stamp::from(stamp), line))
+    number_of(&forms::on_end(form, Stamp::from(stamp), line))
 }

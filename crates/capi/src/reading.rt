@@ -5,9 +5,9 @@ ghost use Rattle.layouts.specs.Layouts.{label_layout};
 ghost use Rattle.layouts.specs.Lent.{Gives};
 ghost use Rattle.capi.specs.Answers.{datagram_read, burst_read, header_read, block_read, response_read};
 
-use crate::joined;
 use bursts::burst::Burst;
 use datagrams::Datagram;
+use foundation::octets::joined;
 use layouts::fields::{header_octets, label_octets};
 use layouts::lent::give;
 use messages::response::{self, ResponseFields};

@@ -8,10 +8,9 @@ ghost use Rattle.layouts.specs.Lent.{Gives};
 ghost use Rattle.layouts.specs.Layouts.{common_from, header_from, labels_from};
 ghost use Rattle.capi.specs.Answers.{message_size, header_before, header_again, message_block, header_written, fields_written, block_written, response_written, burst_written, datagram_written};
 
-use crate::joined;
 use addresses::{RepeaterNumber, address_at, number_at};
 use datagrams::Labels;
-use foundation::octets::at;
+use foundation::octets::{at, joined};
 use foundation::refusal::Refusal;
 use layouts::lent::give;
 use messages::message::Size;
@@ -113,7 +112,7 @@ pub extern "C" fn kirruskabe_write_header(fields: &[u8], out: &mut [u8]) -> u8
     ensures { Gives 12 (fields_written fields.now) out.old result out.new }
 {
     if fields.len() != 16 {
-        return 1;
+        return crate::SIZE;
     }
     give(out, header_written(fields))
 }
@@ -147,7 +146,7 @@ pub extern "C" fn kirruskabe_write_response(
     ensures { Gives 24 (response_written reply sap ns destination source flags.now) out.old result out.new }
 {
     let Some(flags) = flags.as_array::<8>() else {
-        return 1;
+        return crate::SIZE;
     };
     if 2 < reply {
         return give::<24>(out, Err(Refusal::Unwritable));
@@ -171,7 +170,7 @@ pub extern "C" fn kirruskabe_write_burst(
     ensures { Gives 33 (burst_written colour datatype info.now sync) out.old result out.new }
 {
     let Some(info) = info.as_array::<12>() else {
-        return 1;
+        return crate::SIZE;
     };
     if 1 < sync {
         return give::<33>(out, Err(Refusal::Unwritable));
@@ -208,10 +207,10 @@ pub extern "C" fn kirruskabe_write_datagram(
     ensures { Gives 53 (datagram_written labels.now colour datatype info.now sync) out.old result out.new }
 {
     if labels.len() != 17 {
-        return 1;
+        return crate::SIZE;
     }
     let Some(info) = info.as_array::<12>() else {
-        return 1;
+        return crate::SIZE;
     };
     if 1 < sync {
         return give::<53>(out, Err(Refusal::Unwritable));

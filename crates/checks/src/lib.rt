@@ -14,7 +14,7 @@ const BLOCK: u32 = 0x2C80_0000;
 
 const MESSAGE: u32 = 0x04C1_1DB7;
 
-// Fewer than eight octets as a number.
+// Fewer than eight octets as a number, one by one: no array has their size.
 fn front(octets: &[u8]) -> u64
     requires { length octets.now < 8 }
     ensures { result ≡ value_of (octet_bit octets.now) 0 (8 * length octets.now) }

@@ -10,7 +10,7 @@ use addresses::{RadioAddress, RepeaterNumber};
 use bursts::burst::{Kind, Sync};
 use foundation::refusal::Refusal;
 
-// What stands before the burst, but for the data type.
+// What stands before the burst, but for the data type. Slot and call stay numbers: the writer takes any, and refuses with 16 those over a bit.
 #[derive(Clone, Copy, Debug, PartialEq, Eq)]
 pub struct Labels {
     pub sequence: u8,
@@ -136,17 +136,6 @@ fn label_octets(labels: Labels, datatype: u8) -> [u8; 20]
     ]
 }
 
-// The labels and the burst behind them.
-fn joined(labels: &[u8], burst: &[u8]) -> [u8; 53]
-    requires { (length labels.now ≡ 20) × (length burst.now ≡ 33) }
-    ensures { result ≡ labels.now ++ burst.now }
-{
-    let mut d = [0u8; 53];
-    foundation::octets::put(&mut d, 0, labels);
-    foundation::octets::put(&mut d, 20, burst);
-    d
-}
-
 // Writes a datagram with its burst. With wrong bits in the burst that the codes put right it comes back. The data type stays a number: any
 // is taken, and refused as the burst's is.
 pub fn write(
@@ -164,5 +153,5 @@ pub fn write(
     }
     let burst = bursts::burst::write(colour, datatype, info, sync)?;
     let head = label_octets(labels, datatype);
-    Ok(joined(&head, &burst))
+    Ok(foundation::octets::joined(&head, &burst))
 }

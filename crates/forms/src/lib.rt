@@ -1,4 +1,5 @@
-// Events on the stored form, for gateways that keep nothing else: restore, act, save. A refusal changes nothing.
+// Events on the stored form, for gateways that keep nothing else: restore, act, save. A refusal changes nothing. Form, stamp and line stay
+// apart: C lends or gives each by itself.
 #![tactic(auto)]
 
 ghost use Rattle.std.specs.Prelude.{◌≡◌, ◌≢◌, true, false, Ok, Err, ◌^◌, ◌<◌, replicate};
@@ -102,8 +103,8 @@ fn is_size(found: Result<(), Refusal>) -> bool
     matches!(found, Err(Refusal::Size))
 }
 
-// What is asked of a form: refused for every size, for a form that is none, for what was found before, and by the answer, in this order. The
-// kind stays a number, as above.
+// What is asked of a form: refused for a wrong size of line, form or octets, for a form that is none, for what was found before, and by the
+// answer, in this order. The kind stays a number, as above.
 fn on_record(
     form: &mut [u8],
     stamp: Stamp,

@@ -1,7 +1,7 @@
 -- Octets as numbers and words, the first highest.
 -- Assumes nothing.
 use mathlib.Core.Path.{◌≡◌, refl, sym, ap, ap₂, ◌∙◌}
-use mathlib.Core.List.{List}
+use mathlib.Core.List.{List, [], ◌∷◌}
 use Prim.Native.Nat.{ℕ, zero, suc, ◌+◌, ◌*◌, ◌-◌, ◌/◌, ◌%◌, ◌^◌, ◌≤◌, ◌<◌}
 use native.Mathlib.Nat.{add-zero}
 use native.Mathlib.Omega.{arith}
@@ -73,3 +73,7 @@ module _ (u : ℕ → ℕ) (bits : Bits u) (ws : List ℕ) (n : ℕ) (word : (q 
   pub words_octets : tabulate n (λ j. get_or ws (j / 8) 0 / 2 ^ (56 - 8 * (j % 8)) % 2 ^ 8) ≡ octets n u
   unfolding octets octet_of_lem
   words_octets = tabulate_ext n octet_of_lem (λ j. value_of u (8 * j) 8) octet_is
+
+-- the two octets of a number of 16 bits
+pub two_octets : (l : List ℕ) (n : ℕ) → n < 65536 → l ≡ n / 256 % 256 ∷ n % 256 ∷ [] → l ≡ n / 256 ∷ n % 256 ∷ []
+two_octets l n h e = let small : n / 256 % 256 ≡ n / 256 = omega (arith, h) in e ∙ ap (λ (x : ℕ). x ∷ n % 256 ∷ []) small

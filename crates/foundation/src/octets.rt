@@ -1,5 +1,5 @@
 // Octets at a place of a slice, read and written for every place: nothing is asked of a caller.
-ghost use Rattle.std.specs.Prelude.{◌≡◌, cond, Option, None, Some, ◌+◌, ◌*◌, ◌-◌, ◌/◌, ◌%◌, ◌^◌, min, ltb, length, get_or, drop};
+ghost use Rattle.std.specs.Prelude.{◌≡◌, cond, Option, None, Some, ◌+◌, ◌*◌, ◌-◌, ◌/◌, ◌%◌, ◌^◌, ◌++◌, min, ltb, length, get_or, drop};
 ghost use Rattle.foundation.specs.Bits.{octet_bit, value_of, tabulate};
 ghost use Rattle.foundation.specs.Octets.{put as put·octets};
 
@@ -74,6 +74,16 @@ pub fn put(to: &mut [u8], at: usize, octets: &[u8])
     if at <= to.len() && octets.len() <= to.len() - at {
         to[at..at + octets.len()].copy_from_slice(octets);
     }
+}
+
+// Two parts in one array, where it has their size.
+pub fn joined<const N: usize>(head: &[u8], tail: &[u8]) -> [u8; N]
+    ensures { length head.now + length tail.now ≡ N → result ≡ head.now ++ tail.now }
+{
+    let mut both = [0u8; N];
+    put(&mut both, 0, head);
+    put(&mut both, head.len(), tail);
+    both
 }
 
 // The shorter of two lengths. std says of `min` that it goes by the order of any type; this says it of numbers, once for all that call it.

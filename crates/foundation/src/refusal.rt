@@ -1,6 +1,6 @@
 // The refusals of document 01's table.
 ghost use Rattle.std.specs.Prelude.{◌≡◌};
-ghost use Rattle.foundation.specs.Refusals.{refusal_number, numbered};
+ghost use Rattle.foundation.specs.Refusals.{refusal_number, number_given, numbered};
 
 use std::error::Error;
 use std::fmt;
@@ -35,6 +35,17 @@ impl Refusal {
         ensures { result ≡ refusal_number self }
     {
         self as u8
+    }
+}
+
+// The number of what is given, 0 for an answer.
+#[tactic(auto, unfolding(crate::specs::Refusals::number_given))]
+pub fn number_of<T>(given: &Result<T, Refusal>) -> u8
+    ensures { result ≡ number_given given.now }
+{
+    match given {
+        Ok(_) => 0,
+        Err(refusal) => refusal.number(),
     }
 }
 

@@ -32,7 +32,8 @@ pub trait Printer {
     // The text of octets, from this state on to their end.
     ghost whole: { Self → List ℕ → List ℕ };
 
-    // Answers octets, as many as there is room for, and writes their text in front. Where nothing follows them, those left over are answered too.
+    // Answers octets, as many as there is room for, and writes their text in front. Where nothing follows them, which only `last` can say, those
+    // left over are answered too.
     fn answer(&mut self, octets: &[u8], last: bool, text: &mut [u8; TEXT]) -> Printed
         ensures { Prints Self.whole self.old octets.now last result self.new text.new };
 

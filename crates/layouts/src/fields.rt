@@ -32,7 +32,7 @@ pub fn reply_of(reply: u8) -> Reply
     }
 }
 
-// C's four arguments as one.
+// C's four arguments as one. No From, as above.
 #[tactic(auto, unfolding(crate::specs::Layouts::delivery_of))]
 pub fn delivery(sap: u8, ns: u8, destination: u32, source: u32) -> Delivery
     ensures { result ≡ delivery_of sap ns destination source }

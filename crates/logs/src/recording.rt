@@ -32,7 +32,8 @@ fn put(line: &mut [u8; LINE], code: Code, contents: &[u8])
     ensures { line.new ≡ line_octets (code_number code) contents.now }
 {
     let n = contents.len();
-    let head = [code.number(), (n / 256) as u8, (n % 256) as u8];
+    let [high, low] = (n as u16).to_be_bytes();
+    let head = [code.number(), high, low];
     let zeros = [0u8; CONTENTS];
     foundation::octets::put(line, 0, &head);
     foundation::octets::put(line, 3, contents);
@@ -67,10 +68,7 @@ fn put_answer(line: &mut [u8; LINE], given: Result<Answer, Refusal>, store: &[u8
 fn both(header: [u8; 12], block: [u8; 12]) -> [u8; 24]
     ensures { result ≡ header ++ block }
 {
-    let mut octets = [0u8; 24];
-    foundation::octets::put(&mut octets, 0, &header);
-    foundation::octets::put(&mut octets, 12, &block);
-    octets
+    foundation::octets::joined(&header, &block)
 }
 
 // The line of a response to an end of attempt.
@@ -143,7 +141,8 @@ fn record_restart(
     stored::restoring::restore(fresh, &form, store).unwrap_or(fresh)
 }
 
-// The record of this kind and these octets.
+// The record of this kind and these octets. That there can be the receiver is asked here and of a restart, not said by its type, which has
+// every value.
 fn record_kind(
     rx: Receiver,
     store: &mut [u8; STORE],

@@ -16,8 +16,8 @@ use Rattle.foundation.specs.Order.{first_failed}
 use Rattle.foundation.specs.Refusals.{refusal, outcome}
 use Rattle.foundation.specs.declared.refusal.Refusal.{Refusal}
 use Rattle.foundation.proofs.Refusals.{ok_zero, ok_same, err_number, err_refusal, err_any}
-use Rattle.foundation.proofs.Copying.{put_all, put_both}
-use Rattle.checks.specs.Checks.{message_check, lowest_first, header_good, message_good}
+use Rattle.foundation.proofs.Copying.{put_all}
+use Rattle.checks.specs.Checks.{header_good, message_good}
 use Rattle.packets.specs.Headers.{header_mask, part, format_of, common_of, header_of, known_format, HeaderAnswer, Accepted, Refused, header_tests, read_header, header_given, written_header, width_number, write_header, header_octets_given}
 use Rattle.messages.specs.Responses.{reply_code, response_header, sack_data, response_data, write_response, response_given, is_sack, ResponseAnswer, refused_response, read_response, fields_given}
 use Rattle.messages.specs.ResponseClaims.{GoodHeader, ResponseRow, header-size, header-check, header-format, block_size_is, block-check, header_alone, header_and_block}
@@ -33,10 +33,6 @@ use Rattle.packets.proofs.HeaderReading.{given_is, size-refused, check-refused, 
 use Rattle.messages.proofs.ResponseReading.{outcome_number, number_outcome, read-refused, read_accepted}
 
 -- ---- the data block of a SACK
-
-pub data_is : (flags check : List ℕ) → length flags ≡ 8 → check ≡ lowest_first (message_check flags) → put (put (replicate 12 0) 0 flags) 8 check ≡ sack_data flags
-unfolding sack_data lowest_first
-data_is flags check n e = rw e (put_both (replicate 12 0) flags (lowest_first (message_check flags)) 8 n refl)
 
 pub flags_are : (block : List ℕ) → length block ≡ 12 → put (replicate 8 0) 0 (take 8 block) ≡ take 8 block
 flags_are block n = put_all (replicate 8 0) (take 8 block) (length-take-le 8 block (omega arith))

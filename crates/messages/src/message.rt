@@ -47,7 +47,7 @@ pub fn size_of(octets: usize) -> Result<Size, Refusal>
         return Err(Refusal::Unwritable);
     }
     let filled = octets + CHECK;
-    let blocks = (filled + (BLOCK - 1)) / BLOCK;
+    let blocks = filled.div_ceil(BLOCK);
     Ok(Size {
         blocks: blocks as u8,
         pad: (BLOCK * blocks - filled) as u8,
@@ -56,7 +56,7 @@ pub fn size_of(octets: usize) -> Result<Size, Refusal>
 
 // ---- headers
 
-// The header of an attempt with this pad, flag and count.
+// The header of an attempt with this pad, flag and count; the flag is the header's bit, a number as there.
 fn attempt(pad: u8, d: Delivery, full: u8, count: u8) -> Result<[u8; 12], Refusal>
     ensures { result ≡ header_octets_given (write_header (padded_header pad d full count)) }
 {

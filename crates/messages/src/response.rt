@@ -77,11 +77,7 @@ fn header_of(reply: Reply, d: Delivery) -> Header
 fn sack_data(flags: [u8; 8]) -> [u8; 12]
     ensures { result ≡ sack_data flags }
 {
-    let check = checks::message_octets(&flags);
-    let mut os = [0u8; 12];
-    foundation::octets::put(&mut os, 0, &flags);
-    foundation::octets::put(&mut os, 8, &check);
-    os
+    foundation::octets::joined(&flags, &checks::message_octets(&flags))
 }
 
 // The data block, if there is one.

@@ -16,10 +16,7 @@ use std::io::Write;
 
 // The number of what is given, 0 where it isn't refused.
 fn number_of<T: Drop>(given: Result<T, Refusal>) -> u32 {
-    match given {
-        Ok(_) => 0,
-        Err(refusal) => u32::from(refusal.number()),
-    }
+    u32::from(foundation::refusal::number_of(&given))
 }
 
 // Writes a line for each case and counts them. It also promises that the definitions give the worked examples of PExamples.

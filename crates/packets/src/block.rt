@@ -43,10 +43,10 @@ fn octets_of(serial: u8, octets: &[u8]) -> [u8; 12]
     requires { (serial < 128) × (length octets.now ≡ 10) }
     ensures { result ≡ written_block serial octets.now }
 {
-    let check = checks::block(serial, octets);
+    let [high, low] = checks::block(serial, octets).to_be_bytes();
     let mut os = [0u8; 12];
-    os[0] = 2 * serial + (check / 256) as u8;
-    os[1] = (check % 256) as u8;
+    os[0] = 2 * serial + high;
+    os[1] = low;
     foundation::octets::put(&mut os, 2, octets);
     os
 }

@@ -25,7 +25,7 @@ pub struct Common {
     pub blocks: u8,
 }
 
-// A header by its format: 1 with class, type and status; 2 with FSN; 3 with S, N(S) and FSN.
+// A header by its format: 1 with class, type and status; 2 with FSN; 3 with S, N(S) and FSN, each a number like the fields above.
 #[derive(Clone, Copy, Debug, PartialEq, Eq)]
 pub enum Header {
     Response(Common, u8, u8, u8),
@@ -154,7 +154,7 @@ fn last_fits(h: Header) -> bool
     }
 }
 
-// The octets of a header by its parts; the format is the number that octet 0 gets.
+// The octets of a header by its parts. The format stays a number: it goes into octet 0 as it is.
 fn octets_of(format: u8, c: Common, last: u8) -> [u8; 12]
     requires { (format < 16) × CommonWithin c }
     ensures { result ≡ with_check (header_body format c last) }
@@ -172,9 +172,9 @@ fn octets_of(format: u8, c: Common, last: u8) -> [u8; 12]
     os[7] = from[2];
     os[8] = 128 * c.full + c.blocks;
     os[9] = last;
-    let check = checks::header(MASK, &os[..10]);
-    os[10] = (check / 256) as u8;
-    os[11] = (check % 256) as u8;
+    let [high, low] = checks::header(MASK, &os[..10]).to_be_bytes();
+    os[10] = high;
+    os[11] = low;
     os
 }
 

@@ -15,7 +15,8 @@ use transactions::header::Transaction;
 pub const STORE: usize = BLOCK * MOST_BLOCKS;
 
 // The receiver: own address, phase (0 no transaction, 1 open, 2 complete), transaction, and the flags of the held blocks.
-// The phase stays a number: every event takes a receiver of any phase, and refuses with 1 one that there can't be.
+// The phase stays a number: every event takes a receiver of any phase, and refuses with 1 one that there can't be. Its store stays beside it,
+// lent to each event: callers keep it in memory of their own, of any size.
 #[derive(Clone, Copy, Debug, PartialEq, Eq)]
 pub struct Receiver {
     pub own: RadioAddress,

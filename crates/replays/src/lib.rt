@@ -120,7 +120,8 @@ fn put_line(out: &mut Writer, line: &[u8; LINE])
     requires { HasRoom report_room out.old }
     ensures { AtMost report_room (octets_line line.now) out.old out.new }
 {
-    let size = foundation::octets::shorter(256 * (line[1] as usize) + line[2] as usize, CONTENTS);
+    let n = u16::from_be_bytes([line[1], line[2]]) as usize;
+    let size = foundation::octets::shorter(n, CONTENTS);
     put_contents(out, Code::from(line[0]), &line[FIRST..FIRST + size]);
 }
 
@@ -159,7 +160,7 @@ fn cut_at(octets: &[u8], at: usize, last: bool) -> Option<Cut>
     if size - at < 3 {
         return cut_short(last, at, size);
     }
-    let n = 256 * (octets[at + 1] as usize) + octets[at + 2] as usize;
+    let n = u16::from_be_bytes([octets[at + 1], octets[at + 2]]) as usize;
     if size - at < 3 + n {
         return cut_short(last, at, size);
     }

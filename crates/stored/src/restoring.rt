@@ -86,7 +86,8 @@ fn ends_in_zeros(b: &[u8; STORED_BLOCK]) -> bool
     b[ZEROS_AT..CHECKED] == [0u8; ZEROS]
 }
 
-// Whether the message check is good, if the transaction is complete.
+// Whether the message check is good, if the transaction is complete. That there can be the receiver is asked, not said by its type, which has
+// every value, since every event takes any.
 fn is_checked(rx: Receiver, store: &[u8; STORE]) -> bool
     requires { receiver_good rx ≡ true }
     ensures { result ≡ message_checked rx store.now }

@@ -38,8 +38,7 @@ fn check_at(to: &mut [u8], at: usize)
         (header_check 0 (take checked_size (drop at to.old)) / 256 ∷ header_check 0 (take checked_size (drop at to.old)) % 256 ∷ []) }
 {
     let end = at + CHECKED;
-    let check = checks::header(0, &to[at..end]);
-    let octets = [(check / 256) as u8, (check % 256) as u8];
+    let octets = checks::header(0, &to[at..end]).to_be_bytes();
     foundation::octets::put(to, end, &octets);
 }
 

@@ -23,7 +23,7 @@ pub struct Flags {
     pub octets: [u8; FLAG_OCTETS],
 }
 
-// Word j of the blocks below n. That there is a word j is asked here and in the next two, not said by a type: a number that only
+// Word j of the blocks below n. That there is a word j is asked here, in `between` and in `word`, not said by a type: a number that only
 // every_between counts would need a type of its own and its making.
 fn below(n: usize, j: usize) -> u64
     requires { j < word_count }

@@ -64,10 +64,7 @@ fn changed(mut field: [u8; 25], p: u8) -> [u8; 25]
 }
 
 fn number_of(field: &[u8]) -> u32 {
-    match block_field::read(field) {
-        Ok(_) => 0,
-        Err(refusal) => u32::from(refusal.number()),
-    }
+    u32::from(foundation::refusal::number_of(&block_field::read(field)))
 }
 
 // The bits of a field each of which, changed alone, makes it read as number 7.

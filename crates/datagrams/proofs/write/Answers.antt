@@ -31,7 +31,7 @@ pub returns-clause-gives : goal.returns-clause-gives
 returns-clause-gives c =
     let a = c.args in
     burst_given a.labels a.colour a.datatype a.info a.sync (sym c.labels_fit.ensures ∙ c.if-not-labels_fit.false) _ (sym c.write.ensures.gives ∙ c.in_ok-burst.was)
-    _ (c.joined.ensures ∙ ap (λ (x : List ℕ). x ++ c.in_ok-burst.burst) c.label_octets-head.ensures)
+    _ (c.joined.ensures (search (rules, c.well_formed, c.label_octets-head.ensures)) ∙ ap (λ (x : List ℕ). x ++ c.in_ok-burst.burst) c.label_octets-head.ensures)
 
 pub returns-clause-comes_back : goal.returns-clause-comes_back
 returns-clause-comes_back c =
@@ -40,4 +40,4 @@ returns-clause-comes_back c =
     given_back a.labels a.colour a.datatype a.info a.sync (omega (arith, g)) (omega (arith, g)) (omega (arith, g)) (search (rules, g)) (λ j. (elem_Fits w8 w8 a.info _ j g.1.1.1.0.1.1 tt).fits)
     _
     (burst_given a.labels a.colour a.datatype a.info a.sync (sym c.labels_fit.ensures ∙ c.if-not-labels_fit.false) _ (sym c.write.ensures.gives ∙ c.in_ok-burst.was)
-    _ (c.joined.ensures ∙ ap (λ (x : List ℕ). x ++ c.in_ok-burst.burst) c.label_octets-head.ensures))
+    _ (c.joined.ensures (search (rules, c.well_formed, c.label_octets-head.ensures)) ∙ ap (λ (x : List ℕ). x ++ c.in_ok-burst.burst) c.label_octets-head.ensures))

@@ -10,4 +10,4 @@ pub returns : goal.returns
 returns c =
     let a = c.args in
     let f = c.fresh_form.ensures in
-    (c.number.ensures ∙ ap number_given f.0 ∙ number_back _ tt (fresh_small _ a.form.now), rw (← c.from.ensures.0, ← c.from.ensures.1) f.1)
+    (c.number_of.ensures ∙ ap number_given f.0 ∙ number_back _ tt (fresh_small _ a.form.now), rw (← c.from.ensures.0, ← c.from.ensures.1) f.1)

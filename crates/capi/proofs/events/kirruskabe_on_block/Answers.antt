@@ -13,7 +13,7 @@ returns c =
     let a = c.args in
     let f = c.on_block.ensures in
     record {
-      returned = c.number.ensures ∙ ap number_given f.0 ∙ number_back _ tt (event_small a.form.now a.line.now (an_event (block a.octets.now)));
+      returned = c.number_of.ensures ∙ ap number_given f.0 ∙ number_back _ tt (event_small a.form.now a.line.now (an_event (block a.octets.now)));
       form_after_lem = rw (← c.from.ensures.0, ← c.from.ensures.1) f.1;
       line_after_is = f.2;
     }

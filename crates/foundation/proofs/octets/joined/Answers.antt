@@ -1,4 +1,4 @@
--- `capi::joined` meets its contract.
+-- `foundation::octets::joined` meets its contract.
 -- Assumes nothing.
 use mathlib.Core.Path.{refl, ap, ◌∙◌}
 use mathlib.Core.List.{List}
@@ -7,7 +7,7 @@ use native.Mathlib.Omega.{arith}
 use lib.ListN.{length, length-replicate}
 use Rattle.foundation.specs.Octets.{put}
 use Rattle.foundation.proofs.Copying.{put_both}
-use Rattle.capi.proofs.joined.Goals as goal
+use Rattle.foundation.proofs.octets.joined.Goals as goal
 
 pub returns : goal.returns
 returns g c = λ size.
