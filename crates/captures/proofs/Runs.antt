@@ -8,6 +8,9 @@ use native.Mathlib.Omega.{arith}
 use lib.ListN.{length, take, drop, length-append}
 use lib.Seq.{take-append_seam, drop-append_seam}
 use Rattle.std.proofs.lemmas.List.{take_min, drop_min}
+use Rattle.std.specs.Prelude.{Result, Ok, Err}
+use Rattle.foundation.specs.Refusals.{refusal_number}
+use Rattle.foundation.specs.declared.refusal.Refusal.{Refusal}
 use Rattle.foundation.proofs.Copying.{length-put}
 use Rattle.texts.specs.Parts.{HasRoom, Wrote, AtMost}
 use Rattle.texts.specs.declared.Writer.{Writer}
@@ -15,8 +18,10 @@ use Rattle.texts.proofs.Writing.{wrote_none, behind}
 use Rattle.captures.specs.declared.Gateway.{Gateway}
 use Rattle.captures.specs.declared.Listing.{Listing}
 use Rattle.captures.specs.declared.Listing.TheVariants.{Numbers, Deliveries}
+use Rattle.receiver_state.specs.declared.Receiver.{Receiver}
 use Rattle.receiver.specs.Events as event
-use Rattle.reception.specs.Reception.{Answer, Refused, Confirmed, answer_of, step_of, said, on_datagram}
+use Rattle.receiver.specs.declared.event.Step as steps
+use Rattle.reception.specs.Reception.{Answer, Refused, Confirmed, Received, by_receiver, received_told, said, on_datagram}
 use Rattle.counting.specs.declared.Counts.{Counts}
 use Rattle.transactions.specs.Answers.{Said}
 use Rattle.counting.specs.Counts.{hands_on, is_message, refuses, is_refused, counted}
@@ -48,7 +53,27 @@ lines_cons l s d ds =
     listed_cons l s.gateway.counts.datagrams (outcome_of s d) (outcomes (left_by s d) ds)
     ∙ ap (λ (k : ℕ). listed_line l s.gateway.counts.datagrams (outcome_of s d) ++ listed l k (outcomes (left_by s d) ds)) (sym (next_index s d))
 
--- an answer as one of the receiver's: the same is said, and the same is counted
+-- the same as a step of the receiver: a refusal is one, whoever refused
+abbrev answer_of : Answer → event.Answer
+answer_of (Refused n) = event.Refused n
+answer_of (Confirmed a) = a
+
+abbrev pub step_of : Received → event.Step
+step_of r = record { receiver = r.receiver; answer = answer_of r.answer }
+
+-- what is given for a datagram, made a step
+
+pub stepped : (given : Result steps.Step Refusal) (rx : Receiver) (s x : steps.Step) → given ≡ Ok x → s ≡ x
+    → event.step_told s ≡ step_of (received_told given rx)
+unfolding by_receiver
+stepped given rx s x e f = rw (e, f) refl
+
+pub not_stepped : (given : Result steps.Step Refusal) (rx : Receiver) (s x : steps.Step) (r : Refusal) → given ≡ Err r → s ≡ x
+    → event.step_told x ≡ event.answered rx (event.Refused (refusal_number r)) → event.step_told s ≡ step_of (received_told given rx)
+not_stepped given rx s x r e f told = rw (e, f) told
+
+-- of a received answer and of the step's, the same is said, and the same is counted
+
 same_said : (a : Answer) (store : List ℕ) → event.said (answer_of a) store ≡ said a store
 unfolding said event.said
 same_said (Refused n) store = refl

@@ -15,7 +15,7 @@ ghost use Rattle.captures.specs.Claims.{ListClaims};
 
 use counting::Counts;
 use foundation::refusal::Refusal;
-use receiver::event::Answer;
+use receiver::event::{Answer, Step};
 use receiver_state::{Receiver, STORE};
 use texts::Writer;
 use transactions::header::Transaction;
@@ -211,7 +211,7 @@ impl Listing {
 
 // ---- datagrams
 
-// The gateway after a datagram, and its line behind the text.
+// The gateway after a datagram, and its line behind the text. A refusal is listed and counted alike, whoever refused.
 fn answer(
     listing: Listing,
     g: Gateway,
@@ -223,7 +223,10 @@ fn answer(
     ensures { (running result store.new ≡ left_by (running g store.old) datagram.now)
         × AtMost (line_room listing) (listed_line listing g.counts.datagrams (outcome_of (running g store.old) datagram.now)) out.old out.new }
 {
-    let step = reception::on_datagram(g.receiver, store, datagram);
+    let step = match reception::on_datagram(g.receiver, store, datagram) {
+        Ok(step) => step,
+        Err(refusal) => Step::refused(g.receiver, refusal),
+    };
     let next = step.receiver;
     put_line(
         listing,

@@ -1,6 +1,6 @@
 -- What a datagram leads to: by what was found of the receiver, of the store and of the datagram.
 -- Assumes nothing.
-use mathlib.Core.Path.{◌≡◌, sym, ap, ◌∙◌}
+use mathlib.Core.Path.{◌≡◌, sym, ap, subst, ◌∙◌}
 use Rattle.std.specs.Prelude.{Result, Ok, Err}
 use Rattle.foundation.specs.Refusals.{refusal_number, outcome}
 use Rattle.foundation.specs.declared.refusal.Refusal.{Refusal}
@@ -18,12 +18,11 @@ use Rattle.bursts.specs.declared.burst.Kind.TheVariants.{Header, Block, Other}
 use Rattle.datagrams.specs.Datagrams.{datagram_number, refused_datagram, read_datagram, datagram_given}
 use Rattle.datagrams.specs.declared.Datagram.{Datagram}
 use Rattle.datagrams.proofs.DatagramClaims.{datagrams}
-use Rattle.receiver.specs.Events as receiver
-use Rattle.receiver.specs.Events.{Step, answered, on_header, on_block}
+use Rattle.receiver.specs.Events.{Step, on_header, on_block}
 use Rattle.receiver_state.specs.Receiver.{store_size, receiver_good}
 use Rattle.receiver_state.specs.declared.Receiver.{Receiver}
 use Rattle.reception.specs.declared.Arrival.{Arrival}
-use Rattle.reception.specs.Reception.{Refused, step_of, DatagramLeft, with_answer, arrival_of, arrival_given, arrived_number, by_receiver, passed_on, on_datagram}
+use Rattle.reception.specs.Reception.{Received, Refused, DatagramLeft, with_answer, arrival_of, arrival_given, arrived_number, by_receiver, passed_on, on_datagram}
 use Rattle.reception.specs.Claims.{Arrives}
 use Rattle.foundation.specs.Order.{first_failed}
 use Rattle.foundation.proofs.Order.{itself}
@@ -79,31 +78,28 @@ module _ (d : List ℕ) where
   no_kind n = rw (ne_eqb (datagram_number d) 0 n)
 
 module _ (rx : Receiver) (store d : List ℕ) where
-  -- the step and what is left, and the claim
-  abbrev pub Led : Step → List ℕ → Type 0
-  Led s next =
-      (s ≡ step_of (on_datagram rx store d).received) × (next ≡ (on_datagram rx store d).store)
-      × Arrives rx store d (on_datagram rx store d).received next
+  -- what is received and what is left, and the claim
+  abbrev pub Led : Received → List ℕ → Type 0
+  Led r next =
+      (r ≡ (on_datagram rx store d).received) × (next ≡ (on_datagram rx store d).store) × Arrives rx store d r next
 
-  led : (l : DatagramLeft) → l ≡ on_datagram rx store d → Led (step_of l.received) l.store
-  led l e =
-      let left : l.store ≡ (on_datagram rx store d).store = ap (λ (x : DatagramLeft). x.store) e in
-      (ap (λ (x : DatagramLeft). step_of x.received) e, left, rw left (claims.datagram rx store d))
+  led : (l : DatagramLeft) → l ≡ on_datagram rx store d → Led l.received l.store
+  led l e = (
+    ap (λ (x : DatagramLeft). x.received) e,
+    ap (λ (x : DatagramLeft). x.store) e,
+    subst (λ (x : DatagramLeft). Arrives rx store d x.received x.store) (sym e) (claims.datagram rx store d),
+  )
 
-  -- the same of a result that is known by another name
-  pub led_as : (r s : Step) (next : List ℕ) → r ≡ s → Led s next → Led r next
-  led_as r s next e l = rw e l
-
-  refused : (n : ℕ) → n ≢ 0 → arrived_number rx store d ≡ n → Led (answered rx (receiver.Refused n)) store
+  refused : (n : ℕ) → n ≢ 0 → arrived_number rx store d ≡ n → Led (with_answer rx (Refused n)) store
   unfolding on_datagram
   refused n z e = led (record { received = with_answer rx (Refused n); store = store }) (rw (e, ne_eqb n 0 z))
 
-  pub not_good : receiver_good rx ≡ false → Led (answered rx (receiver.Refused 1)) store
+  pub not_good : receiver_good rx ≡ false → Led (with_answer rx (Refused 1)) store
   unfolding arrived_number first_failed
   not_good b = refused 1 (λ z. omega arith) (rw b)
 
   module _ (good : receiver_good rx ≡ true) where
-    pub store_not_good : length store ≢ store_size → Led (answered rx (receiver.Refused 1)) store
+    pub store_not_good : length store ≢ store_size → Led (with_answer rx (Refused 1)) store
     unfolding arrived_number first_failed
     store_not_good n = refused 1 (λ z. omega arith) (rw (good, ne_eqb (length store) store_size n))
 
@@ -112,7 +108,7 @@ module _ (rx : Receiver) (store d : List ℕ) where
       unfolding arrived_number first_failed
       number_is = rw (good, eq-eqb (length store) store_size sized) (itself (arrival_of d).number)
 
-      pub not_taken : (r : Refusal) → arrival_given (arrival_of d) ≡ Err r → Led (answered rx (receiver.Refused (refusal_number r))) store
+      pub not_taken : (r : Refusal) → arrival_given (arrival_of d) ≡ Err r → Led (with_answer rx (Refused (refusal_number r))) store
       not_taken r e =
           let n = untaken-number d r e in
           refused (refusal_number r) (λ z. n.1 (sym n.0 ∙ z)) (number_is ∙ sym n.0)
@@ -124,15 +120,15 @@ module _ (rx : Receiver) (store d : List ℕ) where
             sym (ap (λ (y : Arrival). passed_on rx store y.kind y.octets) (brought d x is))
             ∙ rw (number_is, taken-number d x is)
 
-        pub header-taken : x.kind ≡ Header → (s : Step) → s ≡ on_header rx x.octets → Led s store
+        pub header-taken : x.kind ≡ Header → (s : Step) → s ≡ on_header rx x.octets → Led (by_receiver s) store
         unfolding passed_on by_receiver
         header-taken k s e = led (record { received = by_receiver s; store = store }) (rw (e, ← handed, k))
 
         pub block-taken : x.kind ≡ Block → (s : Step) (next : List ℕ) → s ≡ (on_block rx store x.octets).step
-            → next ≡ (on_block rx store x.octets).store → Led s next
+            → next ≡ (on_block rx store x.octets).store → Led (by_receiver s) next
         unfolding passed_on by_receiver
         block-taken k s next e f = led (record { received = by_receiver s; store = next }) (rw (e, f, ← handed, k))
 
-        pub other_refused : x.kind ≡ Other → Led (answered rx (receiver.Refused 5)) store
+        pub other_refused : x.kind ≡ Other → Led (with_answer rx (Refused 5)) store
         unfolding passed_on
         other_refused k = led (record { received = with_answer rx (Refused 5); store = store }) (rw (← handed, k))

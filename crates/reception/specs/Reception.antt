@@ -1,8 +1,8 @@
 -- What a datagram is to one receiver, what it answers and leaves.
 -- Assumes nothing.
-use Rattle.std.specs.Prelude.{Result, cond, List, [], ◌∷◌, ℕ, eqb, length}
+use Rattle.std.specs.Prelude.{Result, Ok, Err, cond, List, [], ◌∷◌, ℕ, eqb, length}
 use Rattle.foundation.specs.Order.{first_failed}
-use Rattle.foundation.specs.Refusals.{outcome}
+use Rattle.foundation.specs.Refusals.{refusal_number, outcome}
 use Rattle.foundation.specs.declared.refusal.Refusal.{Refusal}
 use Rattle.bursts.specs.Bursts.{kind_of}
 use Rattle.bursts.specs.declared.burst.Kind.{Kind}
@@ -11,8 +11,9 @@ use Rattle.datagrams.specs.Datagrams.{datagram_number, read_datagram}
 use Rattle.transactions.specs.Answers.{Said, refused}
 use Rattle.receiver_state.specs.Receiver.{store_size, receiver_good}
 use Rattle.receiver_state.specs.declared.Receiver.{Receiver}
-use Rattle.receiver.specs.Events.{Step, on_header, on_block}
+use Rattle.receiver.specs.Events.{Step, step_told, on_header, on_block}
 use Rattle.receiver.specs.Events as receiver
+use Rattle.receiver.specs.declared.event.Step as steps
 use Rattle.reception.specs.declared.Arrival.{Arrival}
 
 -- what a datagram brings: the number of its refusal, 0 for none; the kind by its data type; the octets that it carries
@@ -38,14 +39,6 @@ pub record Received : Type 0 where
   pub receiver : Receiver
   pub answer : Answer
 
--- the same as a step of the receiver: a refusal is one, whoever refused
-abbrev pub answer_of : Answer → receiver.Answer
-answer_of (Refused n) = receiver.Refused n
-answer_of (Confirmed a) = a
-
-abbrev pub step_of : Received → Step
-step_of r = record { receiver = r.receiver; answer = answer_of r.answer }
-
 -- what is answered, in document 01's numbers and values
 unfoldable pub said : Answer → List ℕ → Said
 said (Refused n) store = refused n
@@ -57,6 +50,11 @@ with_answer rx a = record { receiver = rx; answer = a }
 -- what the confirmed receiver's step is
 unfoldable pub by_receiver : Step → Received
 by_receiver s = with_answer s.receiver (Confirmed s.answer)
+
+-- what is given says one of these: the receiver's step, or a refusal before any, which leaves the receiver as it was
+abbrev pub received_told : Result steps.Step Refusal → Receiver → Received
+received_told (Ok s) rx = by_receiver (step_told s)
+received_told (Err r) rx = with_answer rx (Refused (refusal_number r))
 
 -- what is received, and the store after it
 pub record DatagramLeft : Type 0 where

@@ -2,9 +2,7 @@
 #![tactic(auto)]
 
 ghost use Rattle.std.specs.Prelude.{◌≡◌};
-ghost use Rattle.foundation.specs.Refusals.{refusal_number};
-ghost use Rattle.receiver.specs.Events.{Refused, step_told, answered};
-ghost use Rattle.reception.specs.Reception.{arrival_of, arrival_given, step_of, on_datagram};
+ghost use Rattle.reception.specs.Reception.{arrival_of, arrival_given, received_told, on_datagram};
 ghost use Rattle.reception.specs.Claims.{Arrives};
 
 use bursts::burst::Kind;
@@ -32,21 +30,19 @@ pub fn arrival_of(datagram: &[u8]) -> Result<Arrival, Refusal>
     })
 }
 
-// A datagram at a receiver: its header or its block, or a refusal before any receiver.
-pub fn on_datagram(rx: Receiver, store: &mut [u8], datagram: &[u8]) -> Step
-    ensures { (step_told result ≡ step_of (on_datagram rx store.old datagram.now).received)
+// A datagram at a receiver: the receiver's step at its header or its block, whose refusal is in the step; or a refusal before any receiver.
+pub fn on_datagram(rx: Receiver, store: &mut [u8], datagram: &[u8]) -> Result<Step, Refusal>
+    ensures { (received_told result rx ≡ (on_datagram rx store.old datagram.now).received)
         × (store.new ≡ (on_datagram rx store.old datagram.now).store)
-        × Arrives rx store.old datagram.now (on_datagram rx store.old datagram.now).received store.new }
+        × Arrives rx store.old datagram.now (received_told result rx) store.new }
 {
     if !receiver_state::is_good(rx) || store.len() != STORE {
-        return Step::refused(rx, Refusal::Size);
+        return Err(Refusal::Size);
     }
-    match arrival_of(datagram) {
-        Err(refusal) => Step::refused(rx, refusal),
-        Ok(a) => match a.kind {
-            Kind::Header => receiver::event::on_header(rx, &a.octets),
-            Kind::Block => receiver::event::on_block(rx, store, &a.octets),
-            Kind::Other => Step::refused(rx, Refusal::DataType),
-        },
+    let a = arrival_of(datagram)?;
+    match a.kind {
+        Kind::Header => Ok(receiver::event::on_header(rx, &a.octets)),
+        Kind::Block => Ok(receiver::event::on_block(rx, store, &a.octets)),
+        Kind::Other => Err(Refusal::DataType),
     }
 }
