@@ -14,7 +14,8 @@ use foundation::refusal::Refusal;
 use report::Report;
 use std::io::Write;
 
-// The number of what is given, 0 where it isn't refused.
+// The number of what is given, 0 where it isn't refused: a case is a line with a number. Each kind of octets has a short reader of its own
+// below: with the reader as an argument, each of their calls would be longer than they are.
 fn number_of<T: Drop>(given: Result<T, Refusal>) -> u32 {
     u32::from(foundation::refusal::number_of(&given))
 }

@@ -11,7 +11,7 @@ use report::Report;
 use std::io::Write;
 
 // N(S) 5 and SAP 4, from 1a0b0c to 002104.
-fn delivery() -> Delivery {
+pub(crate) fn delivery() -> Delivery {
     Delivery {
         sap: 4,
         ns: 5,
@@ -30,7 +30,7 @@ fn back() -> Delivery {
     }
 }
 
-// 256 times the number of blocks and the pad, or the number of the refusal.
+// 256 times the number of blocks and the pad, or the number of the refusal: a case is a line with one number.
 fn sized(octets: usize) -> u32 {
     match message::size_of(octets) {
         Ok(size) => (u32::from(size.blocks) << 8) | u32::from(size.pad),

@@ -32,7 +32,7 @@ fn response() -> ResponseOctets {
     })
 }
 
-// The length of a message that is handed on, 1000 for any other answer.
+// The length of a message that is handed on, 1000 for any other answer: one number, as a case has it.
 fn handed_on(a: Result<Answer, Refusal>) -> u32 {
     match a {
         Ok(Answer::Message(n)) => (n % 1000) as u32,
@@ -42,12 +42,7 @@ fn handed_on(a: Result<Answer, Refusal>) -> u32 {
 
 // A message of 13 octets, written and given whole and in order to a fresh receiver of its destination.
 fn looped(store: &mut [u8]) -> u32 {
-    let d = messages::message::Delivery {
-        sap: 4,
-        ns: 5,
-        destination: RadioAddress(0x002104),
-        source: RadioAddress(0x1A0B0C),
-    };
+    let d = crate::packet_cases::delivery();
     handed_on(history::sending::loop_back(b"TARE -12.5 mm", d, store))
 }
 

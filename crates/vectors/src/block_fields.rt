@@ -7,7 +7,7 @@ use codes::block_field;
 use report::Report;
 use std::io::Write;
 
-// Positions in order: the first n of the octets, since there is no heap for a list.
+// Positions in order: the first n of the octets, in fixed memory as everywhere here. (Of the kit's libraries this repository takes io alone.)
 #[derive(Drop)]
 struct Places {
     n: usize,

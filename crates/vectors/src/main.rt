@@ -12,6 +12,7 @@ use inputs::causes;
 use report::Report;
 use std::env::{Env, FillError};
 
+// Not by `called_alone`, which says what a program reads: this one reads nothing.
 fn main(rt: HostRuntime) {
     if !matches!(rt.arg(1, &mut [0u8; 1]), Err(FillError::NotPresent)) {
         let _ = eprintln!(rt; "usage: vectors");

@@ -5,7 +5,7 @@ use codes::slot_type;
 use report::Report;
 use std::io::Write;
 
-// What a word reads as: its octet, or 256 times the number of its refusal.
+// What a word reads as, in one number, as a case has it: its octet, or 256 times the number of its refusal.
 fn reading(word: u32) -> u32 {
     match slot_type::read(word) {
         Ok(octet) => u32::from(octet),
