@@ -10,9 +10,21 @@ mod burst_cases;
 mod packet_cases;
 mod receiver_cases;
 
+use addresses::RadioAddress;
 use foundation::refusal::Refusal;
+use messages::message::Delivery;
 use report::Report;
 use std::io::Write;
+
+// N(S) 5 and SAP 4, from 1a0b0c to 002104.
+fn delivery() -> Delivery {
+    Delivery {
+        sap: 4,
+        ns: 5,
+        destination: RadioAddress(0x002104),
+        source: RadioAddress(0x1A0B0C),
+    }
+}
 
 // The number of what is given, 0 where it isn't refused: a case is a line with a number. Each kind of octets has a short reader of its own
 // below: with the reader as an argument, each of their calls would be longer than they are.

@@ -1,7 +1,7 @@
 // Headers, blocks, messages and responses, written and read.
 ghost use Rattle.report.specs.Counted.{MoreCases};
 
-use crate::number_of;
+use crate::{delivery, number_of};
 use addresses::RadioAddress;
 use messages::message::Delivery;
 use messages::response::{Reply, ResponseOctets};
@@ -9,16 +9,6 @@ use messages::{message, response};
 use packets::{block, header};
 use report::Report;
 use std::io::Write;
-
-// N(S) 5 and SAP 4, from 1a0b0c to 002104.
-pub(crate) fn delivery() -> Delivery {
-    Delivery {
-        sap: 4,
-        ns: 5,
-        destination: RadioAddress(0x002104),
-        source: RadioAddress(0x1A0B0C),
-    }
-}
 
 // The response to it goes the other way.
 fn back() -> Delivery {

@@ -42,7 +42,7 @@ fn handed_on(a: Result<Answer, Refusal>) -> u32 {
 
 // A message of 13 octets, written and given whole and in order to a fresh receiver of its destination.
 fn looped(store: &mut [u8]) -> u32 {
-    let d = crate::packet_cases::delivery();
+    let d = crate::delivery();
     handed_on(history::sending::loop_back(b"TARE -12.5 mm", d, store))
 }
 
