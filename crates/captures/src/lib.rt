@@ -22,7 +22,8 @@ use transactions::header::Transaction;
 
 const DATAGRAM: usize = 53;
 
-// The most octets of the last line.
+// The most octets of the last line. (`inputs::printing` has the same number for the last line of any program: neither crate stands on the
+// other.)
 const END: usize = 67;
 
 // What is listed: index and number of every datagram, or the messages that are handed on. It stays an enum: the definitions and claims speak
@@ -72,7 +73,8 @@ fn put_number(out: &mut Writer, index: u64, number: u8)
     out.word(b"\n");
 }
 
-// Index and source of a message.
+// Index and source of a message. Index and transaction go together through these lines alone, and a number's line has no transaction: a type
+// for the two would be made for each answer and taken apart here.
 fn put_source(out: &mut Writer, index: u64, t: Transaction)
     requires { HasRoom 31 out.old }
     ensures { Wrote (source_part index t) out.old out.new }

@@ -2,7 +2,6 @@
 ghost use Rattle.report.specs.Counted.{MoreCases};
 
 use crate::{delivery, number_of};
-use addresses::RadioAddress;
 use messages::message::Delivery;
 use messages::response::{Reply, ResponseOctets};
 use messages::{message, response};
@@ -12,11 +11,11 @@ use std::io::Write;
 
 // The response to it goes the other way.
 fn back() -> Delivery {
+    let d = delivery();
     Delivery {
-        sap: 4,
-        ns: 5,
-        destination: RadioAddress(0x1A0B0C),
-        source: RadioAddress(0x002104),
+        destination: d.source,
+        source: d.destination,
+        ..d
     }
 }
 

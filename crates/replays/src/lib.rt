@@ -30,7 +30,7 @@ const HEADER: usize = 12;
 // Where the contents of a line begin, and the most octets of them.
 const FIRST: usize = 3;
 
-const CONTENTS: usize = 1024;
+const CONTENTS: usize = LINE - FIRST;
 
 // Octets of text that every line has room in.
 pub const ROOM: usize = 2064;

@@ -113,7 +113,8 @@ impl<W: Write> Report<W> {
         self.count(right, line);
     }
 
-    // A case whose value is a number, in at least so many hexadecimal digits.
+    // A case whose value is a number, in at least so many hexadecimal digits. Subject and text are two halves of its name: callers have the one
+    // for many cases and the other for one, and joined they would want a heap.
     pub fn number(&mut self, subject: &str, text: &str, digits: usize, value: u32, expected: u32)
         ensures { Counted ℕ value expected self.old.tally self.new.tally }
     {
