@@ -27,11 +27,11 @@ fn sized(octets: usize) -> u32 {
     }
 }
 
-fn size<W: Write>(report: &mut Report<W>, text: &str, octets: usize, expected: u32)
+fn size<W: Write>(report: &mut Report<W>, text: &[u8], octets: usize, expected: u32)
     ensures { MoreCases 1 report.old.tally report.new.tally }
 {
     report.number(
-        "blocks and pad of a message, octets ",
+        b"blocks and pad of a message, octets ",
         text,
         4,
         sized(octets),
@@ -42,23 +42,23 @@ fn size<W: Write>(report: &mut Report<W>, text: &str, octets: usize, expected: u
 fn sizes<W: Write>(report: &mut Report<W>)
     ensures { MoreCases 3 report.old.tally report.new.tally }
 {
-    size(report, "0", 0, 0x0106);
-    size(report, "6", 6, 0x0100);
-    size(report, "7", 7, 0x0209);
+    size(report, b"0", 0, 0x0106);
+    size(report, b"6", 6, 0x0100);
+    size(report, b"7", 7, 0x0209);
 }
 
 fn largest_sizes<W: Write>(report: &mut Report<W>)
     ensures { MoreCases 2 report.old.tally report.new.tally }
 {
-    size(report, "626", 626, 0x3F00);
-    size(report, "627, number", 627, 16);
+    size(report, b"626", 626, 0x3F00);
+    size(report, b"627, number", 627, 16);
 }
 
-fn block_of<W: Write>(report: &mut Report<W>, text: &str, n: usize, expected: &[u8])
+fn block_of<W: Write>(report: &mut Report<W>, text: &[u8], n: usize, expected: &[u8])
     ensures { MoreCases 1 report.old.tally report.new.tally }
 {
     let octets = message::block(b"TARE -12.5 mm", n).unwrap_or([0u8; 12]);
-    report.octets("TARE -12.5 mm, ", text, &octets, expected);
+    report.octets(b"TARE -12.5 mm, ", text, &octets, expected);
 }
 
 // The message of 13 octets in two blocks, with the headers of a whole and of a repeat attempt.
@@ -68,36 +68,36 @@ fn message_octets<W: Write>(report: &mut Report<W>)
     let full = message::full_header(13, delivery()).unwrap_or([0u8; 12]);
     let partial = message::partial_header(13, delivery(), 1).unwrap_or([0u8; 12]);
     report.octets(
-        "TARE -12.5 mm, ",
-        "header",
+        b"TARE -12.5 mm, ",
+        b"header",
         &full,
         b"\x43\x43\x00\x21\x04\x1a\x0b\x0c\x82\x58\xdd\xc0",
     );
     report.octets(
-        "TARE -12.5 mm, ",
-        "header of a repeat of one block",
+        b"TARE -12.5 mm, ",
+        b"header of a repeat of one block",
         &partial,
         b"\x43\x43\x00\x21\x04\x1a\x0b\x0c\x01\x58\x93\x0b",
     );
     block_of(
         report,
-        "block 0",
+        b"block 0",
         0,
         b"\x01\xcb\x54\x41\x52\x45\x20\x2d\x31\x32\x2e\x35",
     );
     block_of(
         report,
-        "block 1",
+        b"block 1",
         1,
         b"\x02\x6d\x20\x6d\x6d\x00\x00\x00\x43\xf7\x1f\x19",
     );
 }
 
-fn read_header<W: Write>(report: &mut Report<W>, text: &str, octets: &[u8], expected: u32)
+fn read_header<W: Write>(report: &mut Report<W>, text: &[u8], octets: &[u8], expected: u32)
     ensures { MoreCases 1 report.old.tally report.new.tally }
 {
     report.number(
-        "reading a header, ",
+        b"reading a header, ",
         text,
         1,
         number_of(header::read(octets)),
@@ -110,8 +110,8 @@ fn headers<W: Write>(report: &mut Report<W>)
 {
     let good = b"\x43\x43\x00\x21\x04\x1a\x0b\x0c\x82\x58\xdd\xc0";
     let reserved = b"\x63\x43\x00\x21\x04\x1a\x0b\x0c\x82\x58\xe4\xcd";
-    read_header(report, "as written, number", good, 0);
-    read_header(report, "reserved bit 1, number", reserved, 0);
+    read_header(report, b"as written, number", good, 0);
+    read_header(report, b"reserved bit 1, number", reserved, 0);
 }
 
 fn refused_headers<W: Write>(report: &mut Report<W>)
@@ -119,16 +119,16 @@ fn refused_headers<W: Write>(report: &mut Report<W>)
 {
     let format = b"\x44\x43\x00\x21\x04\x1a\x0b\x0c\x82\x58\xc1\x3a";
     let check = b"\x43\x43\x00\x21\x04\x1a\x0b\x0c\x82\x58\xdd\xc1";
-    read_header(report, "format 4, number", format, 9);
-    read_header(report, "another check, number", check, 8);
-    read_header(report, "11 octets, number", &[0u8; 11], 1);
+    read_header(report, b"format 4, number", format, 9);
+    read_header(report, b"another check, number", check, 8);
+    read_header(report, b"11 octets, number", &[0u8; 11], 1);
 }
 
-fn read_block<W: Write>(report: &mut Report<W>, text: &str, octets: &[u8], expected: u32)
+fn read_block<W: Write>(report: &mut Report<W>, text: &[u8], octets: &[u8], expected: u32)
     ensures { MoreCases 1 report.old.tally report.new.tally }
 {
     report.number(
-        "reading a block, ",
+        b"reading a block, ",
         text,
         1,
         number_of(block::read(octets)),
@@ -138,7 +138,7 @@ fn read_block<W: Write>(report: &mut Report<W>, text: &str, octets: &[u8], expec
 
 fn write_block<W: Write>(
     report: &mut Report<W>,
-    text: &str,
+    text: &[u8],
     serial: u8,
     octets: &[u8],
     expected: u32,
@@ -146,7 +146,7 @@ fn write_block<W: Write>(
     ensures { MoreCases 1 report.old.tally report.new.tally }
 {
     report.number(
-        "writing a block, ",
+        b"writing a block, ",
         text,
         2,
         number_of(block::write(serial, octets)),
@@ -159,17 +159,17 @@ fn read_blocks<W: Write>(report: &mut Report<W>)
 {
     let good = b"\x01\xcb\x54\x41\x52\x45\x20\x2d\x31\x32\x2e\x35";
     let bad = b"\x01\xcb\x54\x41\x52\x45\x20\x2d\x31\x32\x2e\x36";
-    read_block(report, "as written, number", good, 0);
-    read_block(report, "another octet, number", bad, 13);
-    read_block(report, "13 octets, number", &[0u8; 13], 1);
+    read_block(report, b"as written, number", good, 0);
+    read_block(report, b"another octet, number", bad, 13);
+    read_block(report, b"13 octets, number", &[0u8; 13], 1);
 }
 
 fn written_blocks<W: Write>(report: &mut Report<W>)
     ensures { MoreCases 3 report.old.tally report.new.tally }
 {
-    write_block(report, "serial 127, number", 127, &[0u8; 10], 0);
-    write_block(report, "serial 128, number", 128, &[0u8; 10], 16);
-    write_block(report, "9 octets, number", 0, &[0u8; 9], 1);
+    write_block(report, b"serial 127, number", 127, &[0u8; 10], 0);
+    write_block(report, b"serial 128, number", 128, &[0u8; 10], 16);
+    write_block(report, b"9 octets, number", 0, &[0u8; 9], 1);
 }
 
 fn flags() -> [u8; 8] {
@@ -184,11 +184,11 @@ fn written(kind: Reply) -> ResponseOctets {
     })
 }
 
-fn reply<W: Write>(report: &mut Report<W>, text: &str, kind: Reply, expected: &[u8])
+fn reply<W: Write>(report: &mut Report<W>, text: &[u8], kind: Reply, expected: &[u8])
     ensures { MoreCases 1 report.old.tally report.new.tally }
 {
     let octets = written(kind).header;
-    report.octets("response, N(S) 5, ", text, &octets, expected);
+    report.octets(b"response, N(S) 5, ", text, &octets, expected);
 }
 
 fn replies<W: Write>(report: &mut Report<W>)
@@ -196,19 +196,19 @@ fn replies<W: Write>(report: &mut Report<W>)
 {
     reply(
         report,
-        "ACK",
+        b"ACK",
         Reply::Ack,
         b"\x01\x40\x1a\x0b\x0c\x00\x21\x04\x00\x0d\xa3\x3c",
     );
     reply(
         report,
-        "NACK",
+        b"NACK",
         Reply::Nack,
         b"\x01\x40\x1a\x0b\x0c\x00\x21\x04\x00\x4d\xeb\xf8",
     );
     reply(
         report,
-        "SACK",
+        b"SACK",
         Reply::Sack,
         b"\x01\x40\x1a\x0b\x0c\x00\x21\x04\x01\x85\x80\x8d",
     );
@@ -219,18 +219,18 @@ fn sack_block<W: Write>(report: &mut Report<W>)
 {
     let data = written(Reply::Sack).block.unwrap_or([0u8; 12]);
     report.octets(
-        "data block of this SACK, ",
-        "block 1 of 3 missing",
+        b"data block of this SACK, ",
+        b"block 1 of 3 missing",
         &data,
         b"\xfd\xff\xff\xff\xff\xff\xff\xff\x00\xb6\xae\x30",
     );
 }
 
-fn heard<W: Write>(report: &mut Report<W>, text: &str, header: &[u8], data: &[u8], expected: u32)
+fn heard<W: Write>(report: &mut Report<W>, text: &[u8], header: &[u8], data: &[u8], expected: u32)
     ensures { MoreCases 1 report.old.tally report.new.tally }
 {
     report.number(
-        "reading a response, ",
+        b"reading a response, ",
         text,
         1,
         number_of(response::read(header, data)),
@@ -249,12 +249,12 @@ fn readings<W: Write>(report: &mut Report<W>)
         Err(_) => [0u8; 8],
     };
     report.octets(
-        "reading a response, ",
-        "flags of the SACK",
+        b"reading a response, ",
+        b"flags of the SACK",
         &found,
         &flags(),
     );
-    heard(report, "ACK and no data, number", ack, b"", 0);
+    heard(report, b"ACK and no data, number", ack, b"", 0);
 }
 
 fn refused_readings<W: Write>(report: &mut Report<W>)
@@ -262,11 +262,11 @@ fn refused_readings<W: Write>(report: &mut Report<W>)
 {
     let sack = b"\x01\x40\x1a\x0b\x0c\x00\x21\x04\x01\x85\x80\x8d";
     let other = b"\xfd\xff\xff\xff\xff\xff\xff\xff\x00\xb6\xae\x31";
-    heard(report, "SACK and no data, number", sack, b"", 1);
-    heard(report, "SACK with another check, number", sack, other, 13);
+    heard(report, b"SACK and no data, number", sack, b"", 1);
+    heard(report, b"SACK with another check, number", sack, other, 13);
     heard(
         report,
-        "a confirmed header, number",
+        b"a confirmed header, number",
         b"\x43\x43\x00\x21\x04\x1a\x0b\x0c\x82\x58\xdd\xc0",
         b"",
         9,

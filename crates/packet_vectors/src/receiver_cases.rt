@@ -47,7 +47,13 @@ fn looped(store: &mut [u8]) -> u32 {
 }
 
 // The octets that stand in front in a store.
-fn front<W: Write>(report: &mut Report<W>, subject: &str, text: &str, store: &[u8], expected: &[u8])
+fn front<W: Write>(
+    report: &mut Report<W>,
+    subject: &[u8],
+    text: &[u8],
+    store: &[u8],
+    expected: &[u8],
+)
     ensures { MoreCases 1 report.old.tally report.new.tally }
 {
     let n = expected.len();
@@ -62,14 +68,14 @@ fn responses<W: Write>(report: &mut Report<W>)
 {
     let r = response();
     report.octets(
-        "end of attempt, block 1 of 3 missing",
-        "",
+        b"end of attempt, block 1 of 3 missing",
+        b"",
         &r.header,
         b"\x01\x40\x1A\x0B\x0C\x00\x21\x04\x01\x85\x80\x8D",
     );
     report.octets(
-        "its data block",
-        "",
+        b"its data block",
+        b"",
         &r.block.unwrap_or([0u8; 12]),
         b"\xFD\xFF\xFF\xFF\xFF\xFF\xFF\xFF\x00\xB6\xAE\x30",
     );
@@ -80,11 +86,11 @@ fn messages<W: Write>(report: &mut Report<W>)
 {
     let mut store = [0u8; STORE];
     let n = looped(&mut store);
-    report.number("TARE -12.5 mm, octets handed on", "", 1, n, 13);
+    report.number(b"TARE -12.5 mm, octets handed on", b"", 1, n, 13);
     front(
         report,
-        "the message in the store",
-        "",
+        b"the message in the store",
+        b"",
         &store,
         b"TARE -12.5 mm",
     );

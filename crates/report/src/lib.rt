@@ -2,18 +2,16 @@
 #![tactic(auto)]
 
 ghost use Rattle.std.specs.Prelude.{◌≡◌, ℕ, Bool, true, List, None, IsSome};
-ghost use Rattle.report.specs.Counted.{Counted};
+ghost use Rattle.report.specs.Counted.{Counted, SameCounts};
 
-use std::fmt::{Display, Formatter};
-use std::io::Write;
-use std::{fmt, io};
+use std::io::{Error, Write};
 
 // How many cases have run, how many of them went wrong, and why something that was to be written could not be, the last time.
 #[derive(Clone, Copy)]
 pub struct Tally {
     pub cases: u32,
     pub wrong: u32,
-    pub failed: Option<io::Error>,
+    pub failed: Option<Error>,
 }
 
 // What the lines are written to, and their count.
@@ -23,48 +21,15 @@ pub struct Report<W> {
     pub tally: Tally,
 }
 
-// A number in at least so many hexadecimal digits.
+// The value of a case, as its line has it.
 #[derive(Clone, Copy)]
-struct Hex {
-    value: u32,
-    digits: usize,
-}
-
-impl Display for Hex {
-    fn fmt<W: fmt::Write>(&self, f: &mut Formatter<W>) -> fmt::Result {
-        let digits = self.digits;
-        let value = self.value;
-        write!(f, "{value:0digits$x}")
-    }
-}
-
-// Octets stand close, in hexadecimal.
-#[derive(Clone, Copy)]
-struct Octets<'a>(&'a [u8]);
-
-impl<'a> Display for Octets<'a> {
-    fn fmt<W: fmt::Write>(&self, f: &mut Formatter<W>) -> fmt::Result {
-        for octet in self.0 {
-            write!(f, "{octet:02x}")?;
-        }
-        Ok(())
-    }
-}
-
-// Positions stand apart, in decimal.
-#[derive(Clone, Copy)]
-struct Positions<'a>(&'a [u8]);
-
-impl<'a> Display for Positions<'a> {
-    fn fmt<W: fmt::Write>(&self, f: &mut Formatter<W>) -> fmt::Result {
-        for (i, position) in self.0.iter().enumerate() {
-            if i > 0 {
-                write!(f, " ")?;
-            }
-            write!(f, "{position}")?;
-        }
-        Ok(())
-    }
+enum Value<'a> {
+    // A number in at least so many hexadecimal digits.
+    Number { value: u32, digits: usize },
+    // Octets stand close, in hexadecimal.
+    Octets(&'a [u8]),
+    // Positions stand apart, in decimal.
+    Positions(&'a [u8]),
 }
 
 impl<W: Write> Report<W> {
@@ -81,77 +46,125 @@ impl<W: Write> Report<W> {
         }
     }
 
-    // A case, whose line was written or not.
-    fn count(&mut self, right: bool, line: io::Result<()>)
+    // A piece of a line. What could not be written once stays so, and the pieces behind it are written all the same.
+    fn put(&mut self, piece: &[u8])
+        ensures { SameCounts self.old.tally self.new.tally }
+    {
+        let error = self.out.write_all(piece).err();
+        self.tally.failed = error.or(self.tally.failed);
+    }
+
+    fn put_hex(&mut self, value: u32, digits: usize)
+        ensures { SameCounts self.old.tally self.new.tally }
+    {
+        let mut text = [0u8; 16];
+        let size = io::hex(u64::from(value), digits, &mut text);
+        self.put(&text[..size]);
+    }
+
+    fn put_decimal(&mut self, value: u32)
+        ensures { SameCounts self.old.tally self.new.tally }
+    {
+        let mut text = [0u8; 20];
+        let size = io::decimal(u64::from(value), &mut text);
+        self.put(&text[..size]);
+    }
+
+    fn put_value(&mut self, value: Value)
+        ensures { SameCounts self.old.tally self.new.tally }
+    {
+        match value {
+            Value::Number { value, digits } => self.put_hex(value, digits),
+            Value::Octets(octets) => self.put_octets(octets),
+            Value::Positions(positions) => self.put_positions(positions),
+        }
+    }
+
+    fn put_octets(&mut self, octets: &[u8])
+        ensures { SameCounts self.old.tally self.new.tally }
+    {
+        for octet in octets {
+            self.put_hex(u32::from(*octet), 2);
+        }
+    }
+
+    fn put_positions(&mut self, positions: &[u8])
+        ensures { SameCounts self.old.tally self.new.tally }
+    {
+        for (i, position) in positions.iter().enumerate() {
+            if i > 0 {
+                self.put(b" ");
+            }
+            self.put_decimal(u32::from(*position));
+        }
+    }
+
+    fn count(&mut self, right: bool)
         ensures { Counted Bool right true self.old.tally self.new.tally }
     {
         self.tally.cases = self.tally.cases.wrapping_add(1);
         if !right {
             self.tally.wrong = self.tally.wrong.wrapping_add(1);
         }
-        if let Err(error) = line {
-            self.tally.failed = Some(error);
-        }
     }
 
     // The line of a case: its name, what was computed, and of what; and what it should be.
-    fn case<D: Display + Drop>(
-        &mut self,
-        subject: &str,
-        text: &str,
-        right: bool,
-        value: D,
-        expected: D,
-    )
+    fn case(&mut self, subject: &[u8], text: &[u8], right: bool, value: Value, expected: Value)
         ensures { Counted Bool right true self.old.tally self.new.tally }
     {
-        let line = if right {
-            writeln!(self.out, "{subject}{text}: {value} ok")
+        self.put(subject);
+        self.put(text);
+        self.put(b": ");
+        self.put_value(value);
+        if right {
+            self.put(b" ok\n");
         } else {
-            writeln!(self.out, "{subject}{text}: {value} wrong, not {expected}")
-        };
-        self.count(right, line);
+            self.put(b" wrong, not ");
+            self.put_value(expected);
+            self.put(b"\n");
+        }
+        self.count(right);
     }
 
     // A case whose value is a number, in at least so many hexadecimal digits. Subject and text are two halves of its name: callers have the one
     // for many cases and the other for one, and joined they would want a heap.
-    pub fn number(&mut self, subject: &str, text: &str, digits: usize, value: u32, expected: u32)
+    pub fn number(&mut self, subject: &[u8], text: &[u8], digits: usize, value: u32, expected: u32)
         ensures { Counted ℕ value expected self.old.tally self.new.tally }
     {
-        let hex = |value| Hex { value, digits };
+        let hex = |value| Value::Number { value, digits };
         self.case(subject, text, value == expected, hex(value), hex(expected));
     }
 
     // A case whose value is yes or no, as 1 or 0.
-    pub fn answer(&mut self, subject: &str, text: &str, value: bool, expected: bool)
+    pub fn answer(&mut self, subject: &[u8], text: &[u8], value: bool, expected: bool)
         ensures { Counted Bool value expected self.old.tally self.new.tally }
     {
         self.number(subject, text, 1, u32::from(value), u32::from(expected));
     }
 
     // A case whose value is a run of octets.
-    pub fn octets(&mut self, subject: &str, text: &str, value: &[u8], expected: &[u8])
+    pub fn octets(&mut self, subject: &[u8], text: &[u8], value: &[u8], expected: &[u8])
         ensures { Counted (List ℕ) value.now expected.now self.old.tally self.new.tally }
     {
         self.case(
             subject,
             text,
             value == expected,
-            Octets(value),
-            Octets(expected),
+            Value::Octets(value),
+            Value::Octets(expected),
         );
     }
 
     // A case whose value is a run of positions.
-    pub fn positions(&mut self, subject: &str, text: &str, value: &[u8], expected: &[u8])
+    pub fn positions(&mut self, subject: &[u8], text: &[u8], value: &[u8], expected: &[u8])
         ensures { Counted (List ℕ) value.now expected.now self.old.tally self.new.tally }
     {
         self.case(
             subject,
             text,
             value == expected,
-            Positions(value),
-            Positions(expected),
+            Value::Positions(value),
+            Value::Positions(expected),
         );
     }
 
@@ -160,10 +173,9 @@ impl<W: Write> Report<W> {
         ensures { (self.new.tally.cases ≡ self.old.tally.cases) × (self.new.tally.wrong ≡ self.old.tally.wrong)
             × (IsSome self.old.tally.failed → IsSome self.new.tally.failed) }
     {
-        let cases = self.tally.cases;
-        let wrong = self.tally.wrong;
-        if let Err(error) = writeln!(self.out, "{cases} cases, {wrong} wrong") {
-            self.tally.failed = Some(error);
-        }
+        self.put_decimal(self.tally.cases);
+        self.put(b" cases, ");
+        self.put_decimal(self.tally.wrong);
+        self.put(b" wrong\n");
     }
 }

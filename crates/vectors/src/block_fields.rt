@@ -76,45 +76,45 @@ fn deciding(field: [u8; 25]) -> Places {
     )
 }
 
-fn sent_at<W: Write>(report: &mut Report<W>, text: &str, field: [u8; 25], expected: &[u8])
+fn sent_at<W: Write>(report: &mut Report<W>, text: &[u8], field: [u8; 25], expected: &[u8])
     ensures { MoreCases 1 report.old.tally report.new.tally }
 {
     let found = deciding(field);
     report.positions(
-        "sent positions of plain positions ",
+        b"sent positions of plain positions ",
         text,
         found.octets(),
         expected,
     );
 }
 
-fn written<W: Write>(report: &mut Report<W>, text: &str, info: [u8; 12], expected: &[u8])
+fn written<W: Write>(report: &mut Report<W>, text: &[u8], info: [u8; 12], expected: &[u8])
     ensures { MoreCases 1 report.old.tally report.new.tally }
 {
     let field = block_field::write(info);
-    report.octets("writing ", text, &field, expected);
+    report.octets(b"writing ", text, &field, expected);
 }
 
 // What a field reads as: its 12 octets, or the number of its refusal in one.
-fn read<W: Write>(report: &mut Report<W>, text: &str, field: &[u8], expected: &[u8])
+fn read<W: Write>(report: &mut Report<W>, text: &[u8], field: &[u8], expected: &[u8])
     ensures { MoreCases 1 report.old.tally report.new.tally }
 {
     match block_field::read(field) {
-        Ok(info) => report.octets("reading ", text, &info, expected),
-        Err(refusal) => report.octets("reading ", text, &[refusal.number()], expected),
+        Ok(info) => report.octets(b"reading ", text, &info, expected),
+        Err(refusal) => report.octets(b"reading ", text, &[refusal.number()], expected),
     }
 }
 
-fn refused<W: Write>(report: &mut Report<W>, text: &str, field: &[u8], expected: u32)
+fn refused<W: Write>(report: &mut Report<W>, text: &[u8], field: &[u8], expected: u32)
     ensures { MoreCases 1 report.old.tally report.new.tally }
 {
-    report.number("reading ", text, 1, number_of(field), expected);
+    report.number(b"reading ", text, 1, number_of(field), expected);
 }
 
-fn parity<W: Write>(report: &mut Report<W>, text: &str, value: u32, expected: u32)
+fn parity<W: Write>(report: &mut Report<W>, text: &[u8], value: u32, expected: u32)
     ensures { MoreCases 1 report.old.tally report.new.tally }
 {
-    report.number("parity of ", text, 1, value, expected);
+    report.number(b"parity of ", text, 1, value, expected);
 }
 
 // The data bits are those of row 1, of row 0 and of column 3. Their parity is in columns 11 to 14, and in rows 9 to 12.
@@ -127,9 +127,9 @@ fn parity_bits<W: Write>(report: &mut Report<W>)
     let first_11 = four_bits(row_1, 27, 28, 29, 30);
     let last_11 = four_bits(row_0, 12, 13, 14, 15);
     let first_9 = four_bits(column_3, 139, 154, 169, 184);
-    parity(report, "eleven bits, only the first 1", first_11, 0b1001);
-    parity(report, "eleven bits, only the last 1", last_11, 0b0011);
-    parity(report, "nine bits, only the first 1", first_9, 0b1111);
+    parity(report, b"eleven bits, only the first 1", first_11, 0b1001);
+    parity(report, b"eleven bits, only the last 1", last_11, 0b0011);
+    parity(report, b"nine bits, only the first 1", first_9, 0b1111);
 }
 
 fn last_bit<W: Write>(report: &mut Report<W>)
@@ -138,15 +138,15 @@ fn last_bit<W: Write>(report: &mut Report<W>)
     let found = ones(block_field::write(*b"\0\0\0\0\0\0\0\0\0\0\0\x01"));
     let expected = [131u8, 134, 135, 176, 179, 180, 191, 194, 195];
     report.number(
-        "number of ones, ",
-        "96 bits, only the last 1",
+        b"number of ones, ",
+        b"96 bits, only the last 1",
         1,
         found.n as u32,
         9,
     );
     report.positions(
-        "plain positions of the ones, ",
-        "96 bits, only the last 1",
+        b"plain positions of the ones, ",
+        b"96 bits, only the last 1",
         found.octets(),
         &expected,
     );
@@ -164,10 +164,10 @@ fn interleaving<W: Write>(report: &mut Report<W>)
         *b"\x40\x03\x00\x00\x00\x1c\x00\x00\x00\xe0\x00\x00\x07\x00\x00\x00\x08\x40\x00\x00\x01\x00\x00\x00\x00";
     let r0 =
         *b"\x40\x01\x00\x0a\x00\x0c\x00\x50\x00\x60\x02\x80\x03\x00\x04\x20\x08\x00\x00\x00\x01\x00\x02\x00\x10";
-    sent_at(report, "16 and 1", r2, &[152, 181]);
-    sent_at(report, "17 and 2", r1, &[137, 166]);
-    sent_at(report, "18 and 3", r0, &[122, 151]);
-    refused(report, "the first of these fields, number", &r2, 6);
+    sent_at(report, b"16 and 1", r2, &[152, 181]);
+    sent_at(report, b"17 and 2", r1, &[137, 166]);
+    sent_at(report, b"18 and 3", r0, &[122, 151]);
+    refused(report, b"the first of these fields, number", &r2, 6);
 }
 
 // The field of the published idle burst. Its information is written as the field again, so no bit was put right.
@@ -177,8 +177,8 @@ fn idle<W: Write>(report: &mut Report<W>)
     let field =
         *b"\x53\xc2\x5e\xab\xa8\x67\x1d\xc7\x38\x3b\xd9\x36\x3f\x6e\x46\x51\x71\xb4\x8c\xa6\xd4\xfc\x61\x0b\x40";
     let info = *b"\xff\x83\xdf\x17\x32\x09\x4e\xd1\xe7\xcd\x8a\x91";
-    read(report, "the field of the idle burst", &field, &info);
-    written(report, "this information", info, &field);
+    read(report, b"the field of the idle burst", &field, &info);
+    written(report, b"this information", info, &field);
 }
 
 // A field, and the same with other bits. The free bits are the first and the last four. One bad column: all of column 4 is wrong,
@@ -195,10 +195,10 @@ fn damage<W: Write>(report: &mut Report<W>)
         *b"\x82\xc1\x03\xe9\xa0\xe8\x10\x92\x09\x20\xd6\x48\x87\x02\x93\xc8\xbc\x21\x90\x30\xbd\xd9\x44\x70\x60";
     let two =
         *b"\x06\xd1\x05\xf9\x00\xe8\x90\x53\x01\x26\xd2\x48\x87\x82\xb3\xcc\xbc\x20\x92\x30\xf9\xc1\x42\x70\x40";
-    written(report, "01 to 0c", info, &field);
-    read(report, "this field with its free bits 1", &free, &info);
-    read(report, "this field with one bad column", &one, &info);
-    refused(report, "this field with two bad columns, number", &two, 6);
+    written(report, b"01 to 0c", info, &field);
+    read(report, b"this field with its free bits 1", &free, &info);
+    read(report, b"this field with one bad column", &one, &info);
+    refused(report, b"this field with two bad columns, number", &two, 6);
 }
 
 // The first field has R(2) 1 and no other data bit.
@@ -207,9 +207,9 @@ fn refusals<W: Write>(report: &mut Report<W>)
 {
     let reserved =
         *b"\x00\x01\x80\x04\x00\x08\x00\x28\x00\x40\x01\x40\x02\x00\x0a\x00\x00\x00\x10\x00\x01\x00\x04\x00\x00";
-    refused(report, "a field with R(2) 1, number", &reserved, 7);
-    refused(report, "24 octets, number", &[0u8; 24], 1);
-    refused(report, "26 octets, number", &[0u8; 26], 1);
+    refused(report, b"a field with R(2) 1, number", &reserved, 7);
+    refused(report, b"24 octets, number", &[0u8; 24], 1);
+    refused(report, b"26 octets, number", &[0u8; 26], 1);
 }
 
 fn writing<W: Write>(report: &mut Report<W>)

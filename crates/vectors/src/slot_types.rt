@@ -13,22 +13,28 @@ fn reading(word: u32) -> u32 {
     }
 }
 
-fn written<W: Write>(report: &mut Report<W>, text: &str, octet: u8, expected: u32)
+fn written<W: Write>(report: &mut Report<W>, text: &[u8], octet: u8, expected: u32)
     ensures { MoreCases 1 report.old.tally report.new.tally }
 {
-    report.number("slot type ", text, 5, slot_type::write(octet), expected);
+    report.number(b"slot type ", text, 5, slot_type::write(octet), expected);
 }
 
-fn read<W: Write>(report: &mut Report<W>, text: &str, word: u32, expected: u32)
+fn read<W: Write>(report: &mut Report<W>, text: &[u8], word: u32, expected: u32)
     ensures { MoreCases 1 report.old.tally report.new.tally }
 {
-    report.number("reading slot word ", text, 2, reading(word), expected);
+    report.number(b"reading slot word ", text, 2, reading(word), expected);
 }
 
-fn refused<W: Write>(report: &mut Report<W>, text: &str, word: u32, expected: u32)
+fn refused<W: Write>(report: &mut Report<W>, text: &[u8], word: u32, expected: u32)
     ensures { MoreCases 1 report.old.tally report.new.tally }
 {
-    report.number("reading slot word ", text, 1, reading(word) / 256, expected);
+    report.number(
+        b"reading slot word ",
+        text,
+        1,
+        reading(word) / 256,
+        expected,
+    );
 }
 
 // How many octets read back from their slot types.
@@ -46,51 +52,51 @@ fn read_back() -> u32 {
 fn low_bits<W: Write>(report: &mut Report<W>)
     ensures { MoreCases 4 report.old.tally report.new.tally }
 {
-    written(report, "01", 0x01, 0x018EB);
-    written(report, "02", 0x02, 0x0293E);
-    written(report, "04", 0x04, 0x04A97);
-    written(report, "08", 0x08, 0x08DC6);
+    written(report, b"01", 0x01, 0x018EB);
+    written(report, b"02", 0x02, 0x0293E);
+    written(report, b"04", 0x04, 0x04A97);
+    written(report, b"08", 0x08, 0x08DC6);
 }
 
 fn high_bits<W: Write>(report: &mut Report<W>)
     ensures { MoreCases 4 report.old.tally report.new.tally }
 {
-    written(report, "10", 0x10, 0x10367);
-    written(report, "20", 0x20, 0x206CD);
-    written(report, "40", 0x40, 0x40D99);
-    written(report, "80", 0x80, 0x803DA);
+    written(report, b"10", 0x10, 0x10367);
+    written(report, b"20", 0x20, 0x206CD);
+    written(report, b"40", 0x40, 0x40D99);
+    written(report, b"80", 0x80, 0x803DA);
 }
 
 // 09 is idle with colour code 0.
 fn sums<W: Write>(report: &mut Report<W>)
     ensures { MoreCases 3 report.old.tally report.new.tally }
 {
-    written(report, "09", 0x09, 0x0952D);
-    written(report, "16", 0x16, 0x160CE);
-    written(report, "ff", 0xFF, 0xFFD6D);
+    written(report, b"09", 0x09, 0x0952D);
+    written(report, b"16", 0x16, 0x160CE);
+    written(report, b"ff", 0xFF, 0xFFD6D);
 }
 
 // The published idle burst has 0 in all twenty bits of its slot type.
 fn corrections<W: Write>(report: &mut Report<W>)
     ensures { MoreCases 4 report.old.tally report.new.tally }
 {
-    read(report, "018eb", 0x018EB, 0x01);
-    read(report, "00000, that of the idle burst", 0x00000, 0x00);
+    read(report, b"018eb", 0x018EB, 0x01);
+    read(report, b"00000, that of the idle burst", 0x00000, 0x00);
     read(
         report,
-        "160ce with three wrong bits",
+        b"160ce with three wrong bits",
         0x160CE ^ 0x80401,
         0x16,
     );
-    read(report, "160ce with three wrong parity bits", 0x160DD, 0x16);
+    read(report, b"160ce with three wrong parity bits", 0x160DD, 0x16);
 }
 
 fn all_octets<W: Write>(report: &mut Report<W>)
     ensures { MoreCases 1 report.old.tally report.new.tally }
 {
     report.number(
-        "octets that read back from ",
-        "their slot types",
+        b"octets that read back from ",
+        b"their slot types",
         3,
         read_back(),
         0x100,
@@ -102,13 +108,13 @@ fn refusals<W: Write>(report: &mut Report<W>)
 {
     refused(
         report,
-        "160ce with four wrong bits, number",
+        b"160ce with four wrong bits, number",
         0x160CE ^ 0x80403,
         4,
     );
-    refused(report, "fffff, number", 0xFFFFF, 4);
-    refused(report, "100000, number", 0x10_0000, 1);
-    refused(report, "100018eb, number", 0x1000_18EB, 1);
+    refused(report, b"fffff, number", 0xFFFFF, 4);
+    refused(report, b"100000, number", 0x10_0000, 1);
+    refused(report, b"100018eb, number", 0x1000_18EB, 1);
 }
 
 fn writing<W: Write>(report: &mut Report<W>)
