@@ -5,7 +5,7 @@ ghost use Rattle.codes.specs.SlotWord.{slot_word};
 ghost use Rattle.layouts.specs.Lent.{Gives};
 ghost use Rattle.capi.specs.Answers.{slot_read, field_written, field_read};
 
-use layouts::lent::give;
+use layouts::lent::give_result;
 
 // The 20 bits of a slot type.
 #[unsafe(no_mangle)]
@@ -26,7 +26,7 @@ fn alone(octet: u8) -> [u8; 1]
 pub extern "C" fn kirruskabe_read_slot_type(word: u32, out: &mut [u8]) -> u8
     ensures { Gives 1 (slot_read word) out.old result out.new }
 {
-    give(out, codes::slot_type::read(word).map(alone))
+    give_result(out, codes::slot_type::read(word).map(alone))
 }
 
 // A block field.
@@ -37,7 +37,7 @@ pub extern "C" fn kirruskabe_write_field(info: &[u8], out: &mut [u8]) -> u8
     let Some(info) = info.as_array::<12>() else {
         return crate::SIZE;
     };
-    give(out, Ok(codes::block_field::write(*info)))
+    give_result(out, Ok(codes::block_field::write(*info)))
 }
 
 // The information of a block field.
@@ -45,7 +45,7 @@ pub extern "C" fn kirruskabe_write_field(info: &[u8], out: &mut [u8]) -> u8
 pub extern "C" fn kirruskabe_read_field(field: &[u8], out: &mut [u8]) -> u8
     ensures { Gives 12 (field_read field.now) out.old result out.new }
 {
-    give(out, codes::block_field::read(field))
+    give_result(out, codes::block_field::read(field))
 }
 
 // The header's check with any mask.

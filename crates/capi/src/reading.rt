@@ -9,7 +9,7 @@ use bursts::burst::Burst;
 use datagrams::Datagram;
 use foundation::octets::joined;
 use layouts::fields::{header_octets, label_octets};
-use layouts::lent::give;
+use layouts::lent::give_result;
 use messages::response::{self, ResponseFields};
 use packets::block::Block;
 
@@ -47,7 +47,7 @@ fn response_octets(a: ResponseFields) -> [u8; 18]
 pub extern "C" fn kirruskabe_read_datagram(datagram: &[u8], out: &mut [u8]) -> u8
     ensures { Gives 31 (datagram_read datagram.now) out.old result out.new }
 {
-    give(out, datagrams::read(datagram).map(datagram_octets))
+    give_result(out, datagrams::read(datagram).map(datagram_octets))
 }
 
 // A burst.
@@ -55,7 +55,7 @@ pub extern "C" fn kirruskabe_read_datagram(datagram: &[u8], out: &mut [u8]) -> u
 pub extern "C" fn kirruskabe_read_burst(burst: &[u8], out: &mut [u8]) -> u8
     ensures { Gives 14 (burst_read burst.now) out.old result out.new }
 {
-    give(out, bursts::burst::read(burst).map(burst_octets))
+    give_result(out, bursts::burst::read(burst).map(burst_octets))
 }
 
 // A header.
@@ -63,7 +63,7 @@ pub extern "C" fn kirruskabe_read_burst(burst: &[u8], out: &mut [u8]) -> u8
 pub extern "C" fn kirruskabe_read_header(header: &[u8], out: &mut [u8]) -> u8
     ensures { Gives 16 (header_read header.now) out.old result out.new }
 {
-    give(out, packets::header::read(header).map(header_octets))
+    give_result(out, packets::header::read(header).map(header_octets))
 }
 
 // A block.
@@ -71,7 +71,7 @@ pub extern "C" fn kirruskabe_read_header(header: &[u8], out: &mut [u8]) -> u8
 pub extern "C" fn kirruskabe_read_block(block: &[u8], out: &mut [u8]) -> u8
     ensures { Gives 11 (block_read block.now) out.old result out.new }
 {
-    give(out, packets::block::read(block).map(block_octets))
+    give_result(out, packets::block::read(block).map(block_octets))
 }
 
 // A response: its header, and for a SACK its data block.
@@ -79,5 +79,5 @@ pub extern "C" fn kirruskabe_read_block(block: &[u8], out: &mut [u8]) -> u8
 pub extern "C" fn kirruskabe_read_response(header: &[u8], block: &[u8], out: &mut [u8]) -> u8
     ensures { Gives 18 (response_read header.now block.now) out.old result out.new }
 {
-    give(out, response::read(header, block).map(response_octets))
+    give_result(out, response::read(header, block).map(response_octets))
 }

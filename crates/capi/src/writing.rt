@@ -12,7 +12,7 @@ use addresses::{RepeaterNumber, address_at, number_at};
 use datagrams::Labels;
 use foundation::octets::{at, joined};
 use foundation::refusal::Refusal;
-use layouts::lent::give;
+use layouts::lent::give_result;
 use messages::message::Size;
 use messages::response::{self, ResponseOctets};
 use packets::header::{Common, Header};
@@ -30,7 +30,7 @@ fn size_octets(size: Size) -> [u8; 2]
 pub extern "C" fn kirruskabe_message_size(octets: usize, out: &mut [u8]) -> u8
     ensures { Gives 2 (message_size octets) out.old result out.new }
 {
-    give(out, messages::message::size_of(octets).map(size_octets))
+    give_result(out, messages::message::size_of(octets).map(size_octets))
 }
 
 // The header before a whole message.
@@ -46,7 +46,7 @@ pub extern "C" fn kirruskabe_full_header(
     ensures { Gives 12 (header_before octets sap ns destination source) out.old result out.new }
 {
     let d = layouts::fields::delivery(sap, ns, destination, source);
-    give(out, messages::message::full_header(octets, d))
+    give_result(out, messages::message::full_header(octets, d))
 }
 
 // The header before a repeat attempt with `count` of the message's blocks.
@@ -63,7 +63,7 @@ pub extern "C" fn kirruskabe_partial_header(
     ensures { Gives 12 (header_again octets count sap ns destination source) out.old result out.new }
 {
     let d = layouts::fields::delivery(sap, ns, destination, source);
-    give(out, messages::message::partial_header(octets, d, count))
+    give_result(out, messages::message::partial_header(octets, d, count))
 }
 
 // Block n of a message.
@@ -71,7 +71,7 @@ pub extern "C" fn kirruskabe_partial_header(
 pub extern "C" fn kirruskabe_message_block(message: &[u8], n: usize, out: &mut [u8]) -> u8
     ensures { Gives 12 (message_block message.now n) out.old result out.new }
 {
-    give(out, messages::message::block(message, n))
+    give_result(out, messages::message::block(message, n))
 }
 
 // ---- headers, blocks and responses
@@ -114,7 +114,7 @@ pub extern "C" fn kirruskabe_write_header(fields: &[u8], out: &mut [u8]) -> u8
     if fields.len() != 16 {
         return crate::SIZE;
     }
-    give(out, header_written(fields))
+    give_result(out, header_written(fields))
 }
 
 // A block of ten data octets.
@@ -122,7 +122,7 @@ pub extern "C" fn kirruskabe_write_header(fields: &[u8], out: &mut [u8]) -> u8
 pub extern "C" fn kirruskabe_write_block(serial: u8, octets: &[u8], out: &mut [u8]) -> u8
     ensures { Gives 12 (block_written serial octets.now) out.old result out.new }
 {
-    give(out, packets::block::write(serial, octets))
+    give_result(out, packets::block::write(serial, octets))
 }
 
 // A header, and a data block or zeros.
@@ -149,11 +149,11 @@ pub extern "C" fn kirruskabe_write_response(
         return crate::SIZE;
     };
     if 2 < reply {
-        return give::<24>(out, Err(Refusal::Unwritable));
+        return give_result::<24>(out, Err(Refusal::Unwritable));
     }
     let kind = layouts::fields::reply_of(reply);
     let d = layouts::fields::delivery(sap, ns, destination, source);
-    give(out, response::write(kind, d, *flags).map(header_and_block))
+    give_result(out, response::write(kind, d, *flags).map(header_and_block))
 }
 
 // ---- bursts and datagrams
@@ -173,10 +173,10 @@ pub extern "C" fn kirruskabe_write_burst(
         return crate::SIZE;
     };
     if 1 < sync {
-        return give::<33>(out, Err(Refusal::Unwritable));
+        return give_result::<33>(out, Err(Refusal::Unwritable));
     }
     let s = layouts::fields::sync_of(sync);
-    give(out, bursts::burst::write(colour, datatype, *info, s))
+    give_result(out, bursts::burst::write(colour, datatype, *info, s))
 }
 
 // Labels, at C's places. No From, as above.
@@ -213,11 +213,11 @@ pub extern "C" fn kirruskabe_write_datagram(
         return crate::SIZE;
     };
     if 1 < sync {
-        return give::<53>(out, Err(Refusal::Unwritable));
+        return give_result::<53>(out, Err(Refusal::Unwritable));
     }
     let l = labels_from(labels);
     let s = layouts::fields::sync_of(sync);
-    give(out, datagrams::write(l, colour, datatype, *info, s))
+    give_result(out, datagrams::write(l, colour, datatype, *info, s))
 }
 
 // The sequence counter of the next datagram.

@@ -10,4 +10,4 @@ pub returns : goal.returns
 unfolding field_read field_given
 returns c =
     let f = read_field c.args.field.now in
-    by_outcome f.number f.info c.read.ensures (field_few c.args.field.now) c.give.ensures
+    by_outcome f.number f.info c.read.ensures (field_few c.args.field.now) c.give_result.ensures

@@ -13,4 +13,4 @@ unfolding slot_read slot_given
 returns c =
     let s = read_slot_type c.args.word in
     by_outcome (slot_number s) (slot_data s ∷ []) (made_of _ (slot_number s) (slot_data s) _ c.read.ensures c.map.ensures.cases (λ y p. p))
-    (slot_few s) c.give.ensures
+    (slot_few s) c.give_result.ensures

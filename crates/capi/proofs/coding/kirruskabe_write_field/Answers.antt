@@ -20,4 +20,4 @@ returns c =
     let os = c.args.info.now in
     let info = c.in-Some.ensures.cases in
     behind_as 0 0 (written_field os) _ (past_size 0 os 12 [] info.long ∙ behind-none 0)
-    (gives_as refl (ap (λ (x : List ℕ). (0, x)) (c.write.ensures.0 ∙ ap written_field info.same)) c.give.ensures)
+    (gives_as refl (ap (λ (x : List ℕ). (0, x)) (c.write.ensures.0 ∙ ap written_field info.same)) c.give_result.ensures)

@@ -13,4 +13,4 @@ unfolding block_read block_octets block_given
 returns c =
     let b = c.args.block.now in
     let x = read_block b in
-    by_outcome x.number (block_octets x) (made_of _ x.number _ _ c.read.ensures c.map.ensures.cases (λ y p. p)) (block_read_few b) c.give.ensures
+    by_outcome x.number (block_octets x) (made_of _ x.number _ _ c.read.ensures c.map.ensures.cases (λ y p. p)) (block_read_few b) c.give_result.ensures

@@ -13,4 +13,4 @@ unfolding burst_read burst_octets burst_given
 returns c =
     let b = c.args.burst.now in
     let x = read_burst b in
-    by_outcome x.number (burst_octets x) (made_of _ x.number _ _ c.read.ensures c.map.ensures.cases (λ y p. p)) (burst_few b) c.give.ensures
+    by_outcome x.number (burst_octets x) (made_of _ x.number _ _ c.read.ensures c.map.ensures.cases (λ y p. p)) (burst_few b) c.give_result.ensures

@@ -13,4 +13,4 @@ unfolding datagram_read datagram_octets datagram_given
 returns c =
     let d = c.args.datagram.now in
     let x = read_datagram d in
-    by_outcome x.number (datagram_octets x) (made_of _ x.number _ _ c.read.ensures c.map.ensures.cases (λ y p. p)) (datagram_few d) c.give.ensures
+    by_outcome x.number (datagram_octets x) (made_of _ x.number _ _ c.read.ensures c.map.ensures.cases (λ y p. p)) (datagram_few d) c.give_result.ensures

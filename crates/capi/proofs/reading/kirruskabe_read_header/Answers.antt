@@ -30,4 +30,4 @@ returns c =
     let h = c.args.header.now in
     let n = first_failed (header_tests h) in
     found h _ _ _
-    (by_outcome n (header_octets (header_of h)) (made_of _ n (header_of h) _ (c.read.ensures ∙ given_is h) c.map.ensures.cases (λ y p. p)) (header_read_few h) c.give.ensures)
+    (by_outcome n (header_octets (header_of h)) (made_of _ n (header_of h) _ (c.read.ensures ∙ given_is h) c.map.ensures.cases (λ y p. p)) (header_read_few h) c.give_result.ensures)

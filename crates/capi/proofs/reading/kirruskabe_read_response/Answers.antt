@@ -14,4 +14,4 @@ returns c =
     let h = c.args.header.now in
     let b = c.args.block.now in
     let x = read_response h b in
-    by_outcome x.number (response_octets x) (made_of _ x.number _ _ c.read.ensures c.map.ensures.cases (λ y p. p)) (response_read_few h b) c.give.ensures
+    by_outcome x.number (response_octets x) (made_of _ x.number _ _ c.read.ensures c.map.ensures.cases (λ y p. p)) (response_read_few h b) c.give_result.ensures

@@ -17,4 +17,4 @@ returns c =
     let d = delivery_of a.sap a.ns a.destination a.source in
     let w = full_header a.octets d in
     by_outcome w.number w.octets (c.full_header.ensures ∙ ap (λ (x : Delivery). header_octets_given (full_header a.octets x)) c.delivery-d.ensures)
-    (full_few a.octets d) c.give.ensures
+    (full_few a.octets d) c.give_result.ensures

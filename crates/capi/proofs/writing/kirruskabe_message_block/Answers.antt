@@ -12,4 +12,4 @@ unfolding message_block block_octets_given
 returns c =
     let a = c.args in
     let w = write_message_block a.message.now a.n in
-    by_outcome w.number w.octets c.block.ensures (part_few a.message.now a.n) c.give.ensures
+    by_outcome w.number w.octets c.block.ensures (part_few a.message.now a.n) c.give_result.ensures

@@ -13,4 +13,4 @@ unfolding message_size size_octets size_given
 returns c =
     let n = c.args.octets in
     let w = size_of n in
-    by_outcome w.number (size_octets w) (made_of _ w.number _ _ c.size_of.ensures c.map.ensures.cases (λ y p. p)) (size_few n) c.give.ensures
+    by_outcome w.number (size_octets w) (made_of _ w.number _ _ c.size_of.ensures c.map.ensures.cases (λ y p. p)) (size_few n) c.give_result.ensures

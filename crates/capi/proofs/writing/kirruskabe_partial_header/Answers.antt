@@ -17,4 +17,4 @@ returns c =
     let d = delivery_of a.sap a.ns a.destination a.source in
     let w = partial_header a.octets d a.count in
     by_outcome w.number w.octets (c.partial_header.ensures ∙ ap (λ (x : Delivery). header_octets_given (partial_header a.octets x a.count)) c.delivery-d.ensures)
-    (partial_few a.octets d a.count) c.give.ensures
+    (partial_few a.octets d a.count) c.give_result.ensures

@@ -11,4 +11,4 @@ unfolding block_written block_octets_given
 returns c =
     let a = c.args in
     let w = write_block a.serial a.octets.now in
-    by_outcome w.number w.octets c.write.ensures.0 (block_few a.serial a.octets.now) c.give.ensures
+    by_outcome w.number w.octets c.write.ensures.0 (block_few a.serial a.octets.now) c.give_result.ensures

@@ -22,7 +22,7 @@ returns-then-sync-gt1 c =
     let a = c.args in
     let w : BurstOctets = write_burst a.colour a.datatype a.info.now (sync_of a.sync) in
     behind_as w.number 16 w.octets _ (past_size w.number a.info.now 12 _ c.in-Some.ensures.cases.long ∙ over_most w.number a.sync 1 [] c.if-sync-gt1.true)
-    (by_outcome 16 w.octets (unwritable w.octets) (lit< tt) c.give.ensures)
+    (by_outcome 16 w.octets (unwritable w.octets) (lit< tt) c.give_result.ensures)
 
 pub returns : goal.returns
 unfolding burst_written burst_octets_given
@@ -34,4 +34,4 @@ returns c =
     behind_as w.number w.number w.octets _
     (past_size w.number a.info.now 12 _ info.long ∙ past_most w.number a.sync 1 [] (omega (arith, c.if-sync-gt1.false)) ∙ behind-none w.number)
     (by_outcome w.number w.octets (c.write.ensures.gives ∙ (λ i. burst_octets_given (write_burst a.colour a.datatype (info.same i) (sync i))))
-    (burst_written_few a.colour a.datatype a.info.now (sync_of a.sync)) c.give-2.ensures)
+    (burst_written_few a.colour a.datatype a.info.now (sync_of a.sync)) c.give_result-2.ensures)

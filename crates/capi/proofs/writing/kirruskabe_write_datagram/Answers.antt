@@ -30,7 +30,7 @@ returns-then-sync-gt1 c =
     behind_as w.number 16 w.octets _
     (past_size w.number a.labels.now 17 _ c.if-labels-ne17.false ∙ past_size w.number a.info.now 12 _ c.in-Some.ensures.cases.long
     ∙ over_most w.number a.sync 1 [] c.if-sync-gt1.true)
-    (by_outcome 16 w.octets (unwritable w.octets) (lit< tt) c.give.ensures)
+    (by_outcome 16 w.octets (unwritable w.octets) (lit< tt) c.give_result.ensures)
 
 pub returns : goal.returns
 unfolding datagram_written datagram_octets_given
@@ -46,4 +46,4 @@ returns c =
     ∙ past_most w.number a.sync 1 [] (omega (arith, c.if-sync-gt1.false)) ∙ behind-none w.number)
     (by_outcome w.number w.octets
     (c.write.ensures.gives ∙ (λ i. datagram_octets_given (write_datagram (labels i) a.colour a.datatype (info.same i) (sync i))))
-    (datagram_written_few l a.colour a.datatype a.info.now (sync_of a.sync)) c.give-2.ensures)
+    (datagram_written_few l a.colour a.datatype a.info.now (sync_of a.sync)) c.give_result-2.ensures)

@@ -25,4 +25,4 @@ returns c =
     let f = c.args.fields.now in
     let w : Answer = header_written (header_from f) in
     behind_as w.0 w.0 w.1 _ (past_size w.0 f 16 [] c.if-fields-ne16.false ∙ behind-none w.0)
-    (by_outcome w.0 w.1 c.header_written.ensures (from_few f) c.give.ensures)
+    (by_outcome w.0 w.1 c.header_written.ensures (from_few f) c.give_result.ensures)

@@ -42,7 +42,7 @@ returns-then-reply-gt2 c =
     let w : ResponseWritten = write_response (reply_of a.reply) (delivery_of a.sap a.ns a.destination a.source) a.flags.now in
     behind_as w.number 16 (w.header ++ w.block) _
     (past_size w.number a.flags.now 8 _ c.in-Some.ensures.cases.long ∙ over_most w.number a.reply 2 [] c.if-reply-gt2.true)
-    (by_outcome 16 (w.header ++ w.block) (unwritable (w.header ++ w.block)) (lit< tt) c.give.ensures)
+    (by_outcome 16 (w.header ++ w.block) (unwritable (w.header ++ w.block)) (lit< tt) c.give_result.ensures)
 
 pub returns : goal.returns
 unfolding response_written response_given
@@ -59,4 +59,4 @@ returns c =
     (by_outcome w.number (w.header ++ w.block)
     (made_of _ w.number _ _ (c.write.ensures.0 ∙ (λ i. response_given (write_response (reply i) (delivery i) (flags.same i)))) c.map.ensures.cases
     (λ y p. p ∙ ap (λ (b : List ℕ). w.header ++ b) (or_zeros r d a.flags.now)))
-    (response_few r d a.flags.now) c.give-2.ensures)
+    (response_few r d a.flags.now) c.give_result-2.ensures)
