@@ -41,7 +41,7 @@ returns-then-reply-gt2 c =
     let a = c.args in
     let w : ResponseWritten = write_response (reply_of a.reply) (delivery_of a.sap a.ns a.destination a.source) a.flags.now in
     behind_as w.number 16 (w.header ++ w.block) _
-    (past_size w.number a.flags.now 8 _ c.in-Some.ensures.cases.long ∙ over_most w.number a.reply 2 [] c.if-reply-gt2.true)
+    (past_size w.number a.flags.now 8 _ c.in-Some.ensures.cases.long ∙ over_most w.number a.reply 2 [] (omega (arith, c.if-reply-gt2.true)))
     (by_outcome 16 (w.header ++ w.block) (unwritable (w.header ++ w.block)) (lit< tt) c.give_result.ensures)
 
 pub returns : goal.returns
