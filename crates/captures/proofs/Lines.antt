@@ -15,7 +15,7 @@ use Rattle.transactions.specs.declared.header.Transaction.{Transaction}
 use Rattle.counting.specs.declared.Counts.{Counts}
 use Rattle.transactions.specs.Answers.{number_of}
 use Rattle.receiver_state.specs.Receiver.{store_size}
-use Rattle.receiver.specs.Events.{Answer, Refused, Opened, Repeat, Stored, Bad, Message, said}
+use Rattle.receiver.specs.Events.{Refused, Opened, Repeat, Stored, Bad, Message, said}
 use Rattle.reception.specs.Reception.{Confirmed}
 use Rattle.reception.specs.Reception as reception
 use Rattle.counting.specs.Counts.{answer_number}
@@ -112,14 +112,15 @@ module _ (c : Counts) (datagrams : c.datagrams < 2 ^ 64) (messages : c.messages 
 -- ---- what is said
 
 -- the number that is said, whatever the store holds
-pub number-said : (a : Answer) (store : List ℕ) → answer_number (Confirmed a) ≡ number_of (said a store)
+pub number-said : (a : reception.Answer) (store : List ℕ) → answer_number a ≡ number_of (reception.said a store)
 unfolding answer_number said reception.said number_of
-number-said (Refused n) store = refl
-number-said Opened store = refl
-number-said Repeat store = refl
-number-said Stored store = refl
-number-said Bad store = refl
-number-said (Message n) store = refl
+number-said (reception.Refused n) store = refl
+number-said (Confirmed (Refused n)) store = refl
+number-said (Confirmed Opened) store = refl
+number-said (Confirmed Repeat) store = refl
+number-said (Confirmed Stored) store = refl
+number-said (Confirmed Bad) store = refl
+number-said (Confirmed (Message n)) store = refl
 
 -- no line
 pub no_line : (k : ℕ) (os : List ℕ) (w : Writer) → os ≡ [] → AtMost k os w w

@@ -1,9 +1,20 @@
 -- The counts that the program prints, over the list of its answers, one for each datagram. They wrap at 2^64.
 -- Assumes nothing.
-use Rattle.std.specs.Prelude.{◌≡◌, ℕ, ◌+◌, ◌%◌, ◌^◌, Bool, true, false, cond, List, [], ◌∷◌, ◌++◌, length}
+use Rattle.std.specs.Prelude.{Result, Ok, Err, ◌≡◌, ℕ, ◌+◌, ◌%◌, ◌^◌, Bool, true, false, cond, List, [], ◌∷◌, ◌++◌, length}
 use Rattle.transactions.specs.Answers.{Said, refused, opened, repeat, stored, bad, message, response, number_of}
+use Rattle.receiver.specs.Events as event
+use Rattle.receiver.specs.declared.event.Answer as answers
 use Rattle.reception.specs.Reception.{Answer, said}
 use Rattle.counting.specs.declared.Counts.{Counts}
+
+-- what is given says one of the receiver's answers: a refusal of any kind is told by its number
+abbrev pub told_by : {E : Type 0} → (E → ℕ) → Result answers.Answer E → event.Answer
+told_by number (Ok answers.TheVariants.Opened) = event.Opened
+told_by number (Ok answers.TheVariants.Repeat) = event.Repeat
+told_by number (Ok answers.TheVariants.Stored) = event.Stored
+told_by number (Ok answers.TheVariants.Bad) = event.Bad
+told_by number (Ok (answers.TheVariants.Message n)) = event.Message n
+told_by number (Err e) = event.Refused (number e)
 
 -- document 01's number for an answer: 0 for none. Which octets a message has is no matter here, so none stand for the store
 unfoldable pub answer_number : Answer → ℕ

@@ -7,9 +7,13 @@ use Rattle.counting.specs.Counts.{answer_number}
 use Rattle.counting.proofs.Counting.{no_number}
 use Rattle.counting.proofs.number_of.Goals as goal
 
-pub returns-in-Ok : goal.returns-in-Ok
-returns-in-Ok c = rw c.in-Ok.is (no_number c.in-Ok.field-0)
+pub returns-in-Ok-clause-number : goal.returns-in-Ok-clause-number
+returns-in-Ok-clause-number g c = rw c.in-Ok.is (no_number g.E.Numbered.number c.in-Ok.field-0)
 
-pub returns-in-Err : goal.returns-in-Err
+pub returns-in-Err-clause-number : goal.returns-in-Err-clause-number
 unfolding answer_number said event.said number_of
-returns-in-Err c = rw c.in-Err.is c.number.ensures
+returns-in-Err-clause-number g c = rw c.in-Err.is c.number.ensures
+
+pub returns-in-Err-clause-before_any : goal.returns-in-Err-clause-before_any
+unfolding answer_number said number_of
+returns-in-Err-clause-before_any g c = rw c.in-Err.is c.number.ensures
