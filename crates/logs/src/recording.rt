@@ -136,9 +136,14 @@ fn record_restart(
     };
     stored::saving::save(rx, store, stamp, &mut form).unwrap();
     put(line, Code::Restored, &form);
-    foundation::octets::put(store, 0, &octets[2..]);
+    // In memory of its own: from octets of the caller's to a store of the caller's the compiler would copy by memmove, which the C archive
+    // asks for nowhere else.
+    let mut held = [0u8; STORE];
+    foundation::octets::put(&mut held, 0, &octets[2..]);
     let fresh = receiver_state::idle(rx.own);
-    stored::restoring::restore(fresh, &form, store).unwrap_or(fresh)
+    let receiver = stored::restoring::restore(fresh, &form, &mut held).unwrap_or(fresh);
+    *store = held;
+    receiver
 }
 
 // The record of this kind and these octets. That there can be the receiver is asked here and of a restart, not said by its type, which has

@@ -1,11 +1,11 @@
 -- `logs::recording::record_restart` meets its contract.
 -- Assumes nothing.
 use mathlib.Core.Path.{◌≡◌, ap, ◌∙◌}
-use Prim.Native.Nat.{◌-◌}
+use Prim.Native.Nat.{ℕ, ◌-◌}
 use native.Mathlib.Omega.{arith}
 use borrow.Author.Rules.{rules}
 use Rattle.receiver_state.specs.Receiver.{store_size}
-use lib.ListN.{length, drop, length-drop}
+use lib.ListN.{length, drop, replicate, length-drop, length-replicate}
 use lib.Seq.{take_all}
 use Rattle.foundation.proofs.Copying.{put_all}
 use Rattle.history.specs.Run.{saved_form}
@@ -27,7 +27,8 @@ returns c =
     let room : length a.store.now ≡ store_size = search (rules, c.well_formed) in
     let form = c.save.ensures.1 ∙ form_of a.rx c.requires.0 a.store.now _ _ _ room (omega arith) in
     let rest = take_all (length os - 2) (drop 2 os) (omega (arith, length-drop 2 os)) in
-    let other = c.put-2.ensures ∙ put_all a.store.now _ (ap length rest ∙ length-drop 2 os ∙ omega (arith, room, c.requires.1)) ∙ rest in
+    let blank = length-replicate {A = ℕ} store_size 0 in
+    let other = c.put-2.ensures ∙ put_all (replicate store_size 0) _ (ap length rest ∙ length-drop 2 os ∙ omega (arith, blank, c.requires.1)) ∙ rest in
     let r = c.restore.ensures in
     let left = restart-leaves a.rx a.store.now os _ _ _ c.idle-fresh.ensures form other _ r.0 in
-    (c.unwrap_or.ensures ∙ left.0, r.1 ∙ left.1, c.put.ensures ∙ ap (line_octets 7) form)
+    (c.unwrap_or-receiver.ensures ∙ left.0, r.1 ∙ left.1, c.put.ensures ∙ ap (line_octets 7) form)
