@@ -10,8 +10,8 @@ use lib.ListN.{length, take, drop, length-append, length-drop, take-append-drop}
 use lib.Seq.{length-take-le, take-take}
 use Rattle.foundation.proofs.Tests.{never}
 use Rattle.foundation.proofs.OctetLists.{Octets, octets-append, octets-zeros}
-use Rattle.inputs.specs.Inputs.{ReadBehind, ReadAndWritten}
-use Rattle.inputs.specs.Parts.{Continues, Answers, Prints, Underway}
+use Rattle.inputs.specs.Inputs.{ReadBehind, Continues, Prints, ReadAndWritten}
+use Rattle.inputs.specs.Parts.{Answers, Underway}
 use Rattle.inputs.specs.declared.printing.Printed.{Printed}
 
 pub length_none : (l : List ℕ) → length l ≤ 0 → l ≡ []

@@ -1,12 +1,13 @@
 -- What holds of octets that are read behind others, and of a program that has read its input and written its text.
 -- Assumes nothing.
-use Rattle.std.specs.Prelude.{IfSome, cond, nat_lt, [], ◌≡◌, List, ℕ, ◌%◌, ◌^◌, ◌≤◌, ◌<◌, length, get_or, take}
+use Rattle.std.specs.Prelude.{IfSome, cond, nat_lt, [], ◌++◌, ◌≡◌, Bool, true, false, List, ℕ, ◌%◌, ◌^◌, ◌≤◌, ◌<◌, length, get_or, take, drop}
 use Rattle.std.specs.Io.KnownBytes.{Appends}
 use Rattle.std.specs.declared.option.Option.{Option}
 use Rattle.std.specs.declared.result.Result.{Result}
 use Rattle.std.specs.declared.result.Result.TheVariants.{Ok, Err}
 use Rattle.std.specs.declared.io.Error.{Error}
 use Rattle.inputs.specs.declared.Unread.{Unread}
+use Rattle.inputs.specs.declared.printing.Printed.{Printed}
 use Rattle.inputs.specs.declared.printing.Failed.{Failed}
 use Rattle.inputs.specs.declared.printing.Failed.TheVariants.{Input, Output}
 
@@ -21,6 +22,21 @@ pub record ReadBehind (input : List ℕ) (first size : ℕ) (input' : List ℕ) 
   pub behind : first ≤ size
   pub inside : first ≤ length input → size ≤ length input
   pub octets : (i : ℕ) → get_or input' i 0 < 256
+
+-- whatever follows, or nothing where nothing can: the text of what was read and follows is what was written, and then the text, from now on, of
+-- the rest and of what follows
+abbrev pub Continues : {S : Type 0} → (S → List ℕ → List ℕ) → S → List ℕ → Bool → List ℕ → S → List ℕ → Type 0
+Continues text first read ended written now rest =
+    (more : List ℕ) → (ended ≡ true → more ≡ []) → text first (read ++ more) ≡ written ++ text now (rest ++ more)
+
+-- what a printer gives for octets: their text in front, those behind them as they are to be answered from there on; some of the last ones are
+-- taken, and some of so many as there is memory for
+pub record Prints {S : Type 0} (text : S → List ℕ → List ℕ) (first : S) (octets : List ℕ) (last : Bool) (r : Printed) (now : S) (lent : List ℕ) : Type 0 where
+  pub goes_on : Continues text first octets last (take r.end lent) now (drop r.taken octets)
+  pub ends : r.end ≤ length lent
+  pub takes : r.taken ≤ length octets
+  pub takes_last : last ≡ true → r.taken ≡ 0 → length octets ≡ 0
+  pub takes_full : last ≡ false → r.taken ≡ 0 → length octets < 65538
 
 -- a program that makes a text of what it reads, from a state on, and counts both (modulo 2^64): there are octets, as many as it counted as read,
 -- and a text, of as many octets as it counted as written, and the text is that of the octets

@@ -1,16 +1,10 @@
 -- What the loops of programs keep to, and what a turn of them gives: nothing that a reader has to believe.
 -- Assumes nothing.
-use Rattle.std.specs.Prelude.{◌≡◌, Bool, true, false, List, [], ◌++◌, ℕ, ◌%◌, ◌^◌, ◌≤◌, ◌<◌, length, get_or, take, drop}
+use Rattle.std.specs.Prelude.{◌≡◌, Bool, true, false, List, ℕ, ◌%◌, ◌^◌, ◌≤◌, ◌<◌, length, get_or}
 use Rattle.std.specs.Io.KnownBytes.{Appends, Consumes, IsAtEnd}
 use Rattle.std.specs.declared.option.Option.{Option}
-use Rattle.inputs.specs.declared.printing.Printed.{Printed}
+use Rattle.inputs.specs.Inputs.{Continues}
 use Rattle.inputs.specs.declared.printing.Turn.{Turn}
-
--- whatever follows, or nothing where nothing can: the text of what was read and follows is what was written, and then the text, from now on, of
--- the rest and of what follows
-abbrev pub Continues : {S : Type 0} → (S → List ℕ → List ℕ) → S → List ℕ → Bool → List ℕ → S → List ℕ → Type 0
-Continues text first read ended written now rest =
-    (more : List ℕ) → (ended ≡ true → more ≡ []) → text first (read ++ more) ≡ written ++ text now (rest ++ more)
 
 -- a turn: some of the octets are answered, and so many letters written; where nothing follows, none are left over that could be
 pub record Answers {S : Type 0} (text : S → List ℕ → List ℕ) (first : S) (octets : List ℕ) (ended : Bool) (letters kept : ℕ) (now : S) (rest : List ℕ) : Type 0 where
@@ -28,15 +22,6 @@ pub record Underway {S : Type 0} (text : S → List ℕ → List ℕ) (first : S
   pub as_many : length read % 2 ^ 64 ≡ octets
   pub so_long : length written % 2 ^ 64 ≡ letters
   pub goes_on : Continues text first read ended written now rest
-
--- what a printer gives for octets: their text in front, those behind them as they are to be answered from there on; some of the last ones are
--- taken, and some of so many as there is memory for
-pub record Prints {S : Type 0} (text : S → List ℕ → List ℕ) (first : S) (octets : List ℕ) (last : Bool) (r : Printed) (now : S) (lent : List ℕ) : Type 0 where
-  pub goes_on : Continues text first octets last (take r.end lent) now (drop r.taken octets)
-  pub ends : r.end ≤ length lent
-  pub takes : r.taken ≤ length octets
-  pub takes_last : last ≡ true → r.taken ≡ 0 → length octets ≡ 0
-  pub takes_full : last ≡ false → r.taken ≡ 0 → length octets < 65538
 
 -- a turn that is written, where it is known which octets the writer holds
 abbrev pub PrintsTurn : {S : Type 0} → (S → List ℕ → List ℕ) → S → List ℕ → Bool → Turn → S → List ℕ → Option (List ℕ) → Option (List ℕ) → Type 0

@@ -1,8 +1,9 @@
 // A program that makes text of octets, as they come: what is read is handed on, and its text written, before more is read.
 ghost use Rattle.std.specs.Prelude.{◌≡◌, ◌≤◌, ◌<◌, ℕ, List, [], ◌++◌, false, length, take, IfOk, OnOk};
 ghost use Rattle.std.specs.Io.KnownBytes.{Appends};
-ghost use Rattle.inputs.specs.Inputs.{ReadAndWritten, AllWritten, behind_own, WrittenBehind, failed_by};
-ghost use Rattle.inputs.specs.Parts.{Prints, PrintsTurn};
+ghost use Rattle.inputs.specs.Inputs.{Prints, ReadAndWritten, AllWritten, behind_own, WrittenBehind, failed_by};
+ghost use Rattle.inputs.specs.Parts.{PrintsTurn};
+ghost use Rattle.inputs.specs.declared.printing.Failed.TheVariants.{Input};
 
 use super::{Unread, read_behind, to_front};
 use std::io;
@@ -67,6 +68,8 @@ impl Failed {
 }
 
 impl From<Unread> for Failed {
+    ghost from_gives = { λ unread failed. failed ≡ Input unread.error };
+
     fn from(unread: Unread) -> Failed {
         Failed::Input(unread.error)
     }
