@@ -1,5 +1,5 @@
 // A confirmed rate 1/2 block of 12 octets.
-ghost use Rattle.std.specs.Prelude.{◌≡◌, ◌<◌, length, drop};
+ghost use Rattle.std.specs.Prelude.{◌≡◌, ◌<◌, IfOk, length, drop};
 ghost use Rattle.packets.specs.Blocks.{read_block, block_given, written_block, write_block, block_octets_given};
 ghost use Rattle.packets.specs.BlockClaims.{BlockReadsBack};
 
@@ -53,7 +53,7 @@ fn octets_of(serial: u8, octets: &[u8]) -> [u8; 12]
 
 // Writes a block of ten data octets, which reads back.
 pub fn write(serial: u8, octets: &[u8]) -> Result<[u8; 12], Refusal>
-    ensures { (result ≡ block_octets_given (write_block serial octets.now)) × BlockReadsBack serial octets.now (write_block serial octets.now) }
+    ensures { (result ≡ block_octets_given (write_block serial octets.now)) × BlockReadsBack serial octets.now (write_block serial octets.now) × IfOk result (λ os. BlockReadsBack serial octets.now (record { number = 0; octets = os })) }
 {
     if octets.len() != 10 {
         return Err(Refusal::Size);

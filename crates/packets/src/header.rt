@@ -1,5 +1,5 @@
 // A header of 12 octets.
-ghost use Rattle.std.specs.Prelude.{◌≡◌, ◌<◌, eqb};
+ghost use Rattle.std.specs.Prelude.{◌≡◌, ◌<◌, IfOk, eqb};
 ghost use Rattle.foundation.specs.Order.{first_failed};
 ghost use Rattle.packets.specs.Headers.{common_of, header_of, known_format, read_header, header_given, header_body, with_check, common_widths, widths, write_header, header_octets_given, header_for};
 ghost use Rattle.packets.specs.HeaderClaims.{HeaderReadsBack};
@@ -180,7 +180,7 @@ fn octets_of(format: u8, c: Common, last: u8) -> [u8; 12]
 
 // Writes a header, which reads back.
 pub fn write(h: Header) -> Result<[u8; 12], Refusal>
-    ensures { (result ≡ header_octets_given (write_header h)) × HeaderReadsBack h (write_header h) }
+    ensures { (result ≡ header_octets_given (write_header h)) × HeaderReadsBack h (write_header h) × IfOk result (λ os. HeaderReadsBack h (record { number = 0; octets = os })) }
 {
     let c = common_of(h);
     if !common_fits(c) || !last_fits(h) {
