@@ -19,7 +19,7 @@ use Rattle.foundation.proofs.Refusals.{ok_zero, ok_same, err_number, err_refusal
 use Rattle.foundation.proofs.Copying.{put_all}
 use Rattle.checks.specs.Checks.{header_good, message_good}
 use Rattle.packets.specs.Headers.{header_mask, part, format_of, common_of, header_of, known_format, HeaderAnswer, Accepted, Refused, header_tests, read_header, header_given, written_header, width_number, write_header, header_octets_given}
-use Rattle.messages.specs.Responses.{reply_code, response_header, sack_data, response_data, write_response, response_given, is_sack, ResponseAnswer, refused_response, read_response, fields_given}
+use Rattle.messages.specs.Responses.{reply_code, response_header, response_data, write_response, response_given, blocks_beside, block_beside, written_where, is_sack, ResponseAnswer, refused_response, read_response, fields_given}
 use Rattle.messages.specs.ResponseClaims.{GoodHeader, ResponseRow, header-size, header-check, header-format, block_size_is, block-check, header_alone, header_and_block}
 use Rattle.messages.specs.Parts.{block_given, answer_with, answer_beside, response_by, answer_after}
 use Rattle.packets.specs.declared.header.Common.{Common}
@@ -27,6 +27,7 @@ use Rattle.packets.specs.declared.header.Header.{Header}
 use Rattle.packets.specs.declared.header.Header.TheVariants.{Response, Unconfirmed, Confirmed}
 use Rattle.messages.specs.declared.message.Delivery.{Delivery}
 use Rattle.messages.specs.declared.response.Reply.{Reply}
+use Rattle.messages.specs.declared.response.Reply.TheVariants.{Ack, Nack, Sack}
 use Rattle.messages.specs.declared.response.ResponseOctets.{ResponseOctets}
 use Rattle.packets.proofs.HeaderWriting.{widths_else}
 use Rattle.packets.proofs.HeaderReading.{given_is, size-refused, check-refused, format-refused, accepted, known-format, format_1}
@@ -66,19 +67,32 @@ module _ (r : Reply) (d : Delivery) (flags : List ℕ) where
       let n = err_number (width_number h) _ x e in
       rw (ne_eqb (width_number h) 0 n) (ap Err (sym (err_refusal (width_number h) _ x e) ∙ ap refusal (widths_else h n)))
 
+  -- what is given stands for what is written
   pub write_done : (header : List ℕ) (block : Option (List ℕ)) → header_octets_given (write_header (response_header r d)) ≡ Ok header → block ≡ block_given r flags
-      → Ok (record { header = header; block = block }) ≡ response_given (write_response r d flags)
-  unfolding header_octets_given write_header response_given write_response outcome block_given response_data
+      → written_where (record { header = header; block = block }) ≡ write_response r d flags
+  unfolding header_octets_given write_header write_response outcome block_given reply_code response_data blocks_beside block_beside
   write_done header block e b =
       let h = response_header r d in
       let z = ok_zero (width_number h) _ header e in
       let o : header ≡ written_header h = sym (ok_same (width_number h) _ header e) ∙ rw z in
-      rw z ((λ i. Ok (record { header = o i; block = b i })) ∙ go (eqb (reply_code r).2 0))
+      rw z (λ i. record { number = 0; header = o i; blocks = (ap blocks_beside b ∙ count r) i; block = (ap block_beside b ∙ data_is r) i })
     where
-      go : (t : Bool) → ◌≡◌ {A = Result ResponseOctets Refusal} (Ok (record { header = written_header (response_header r d); block = cond t None (Some (sack_data flags)) }))
-          (Ok (record { header = written_header (response_header r d); block = cond t None (Some (cond t (replicate 12 0) (sack_data flags))) }))
-      go true = refl
-      go false = refl
+      count : (x : Reply) → blocks_beside (block_given x flags) ≡ (reply_code x).2
+      count Ack = refl
+      count Nack = refl
+      count Sack = refl
+
+      data_is : (x : Reply) → block_beside (block_given x flags) ≡ response_data x flags
+      data_is Ack = refl
+      data_is Nack = refl
+      data_is Sack = refl
+
+-- and it is what is given for that
+pub given_for : (header : List ℕ) (block : Option (List ℕ))
+    → ◌≡◌ {A = Result ResponseOctets Refusal} (Ok (record { header = header; block = block })) (response_given (written_where (record { header = header; block = block })))
+unfolding response_given outcome blocks_beside block_beside
+given_for header None = refl
+given_for header (Some b) = refl
 
 -- ---- what is answered
 

@@ -1,6 +1,6 @@
 -- A response: a header of format 1, and for a SACK one data block of 12 octets: 8 octets of flags and a message check over them.
 -- Assumes nothing.
-use Rattle.std.specs.Prelude.{Bool, true, cond, None, Some, Result, List, [], ◌∷◌, ◌++◌, ℕ, eqb, length, get_or, take, replicate}
+use Rattle.std.specs.Prelude.{Bool, true, cond, Option, None, Some, Result, List, [], ◌∷◌, ◌++◌, ℕ, eqb, length, get_or, take, replicate}
 use Rattle.foundation.specs.Order.{first_failed}
 use Rattle.foundation.specs.Refusals.{outcome}
 use Rattle.foundation.specs.declared.refusal.Refusal.{Refusal}
@@ -64,6 +64,19 @@ write_response r d flags =
 -- what the writer gives
 unfoldable pub response_given : ResponseWritten → Result ResponseOctets Refusal
 response_given w = outcome w.number (record { header = w.header; block = cond (eqb w.blocks 0) None (Some w.block) })
+
+-- how many data blocks stand beside the header, and the octets of the block; zeros where there is none
+unfoldable pub blocks_beside : Option (List ℕ) → ℕ
+blocks_beside None = 0
+blocks_beside (Some b) = 1
+
+unfoldable pub block_beside : Option (List ℕ) → List ℕ
+block_beside None = replicate 12 0
+block_beside (Some b) = b
+
+-- what was written where this is given
+abbrev pub written_where : ResponseOctets → ResponseWritten
+written_where r = record { number = 0; header = r.header; blocks = blocks_beside r.block; block = block_beside r.block }
 
 -- ---- reading
 

@@ -1,6 +1,6 @@
 // Responses to an attempt.
-ghost use Rattle.std.specs.Prelude.{◌≡◌, length, take};
-ghost use Rattle.messages.specs.Responses.{reply_code, response_header, sack_data, write_response, response_given, read_response, fields_given};
+ghost use Rattle.std.specs.Prelude.{◌≡◌, IfOk, length, take};
+ghost use Rattle.messages.specs.Responses.{reply_code, response_header, sack_data, write_response, response_given, written_where, read_response, fields_given};
 ghost use Rattle.messages.specs.ResponseClaims.{ResponseReadsBack};
 ghost use Rattle.messages.specs.Parts.{block_given, fields_with, answer_beside, response_by};
 
@@ -93,7 +93,7 @@ fn block_of(reply: Reply, flags: [u8; 8]) -> Option<[u8; 12]>
 
 // Writes a response, which reads back; the flags are those of a SACK.
 pub fn write(reply: Reply, d: Delivery, flags: [u8; 8]) -> Result<ResponseOctets, Refusal>
-    ensures { (result ≡ response_given (write_response reply d flags)) × ResponseReadsBack reply d flags (write_response reply d flags) }
+    ensures { (result ≡ response_given (write_response reply d flags)) × ResponseReadsBack reply d flags (write_response reply d flags) × IfOk result (λ given. ResponseReadsBack reply d flags (written_where given)) }
 {
     let header = packets::header::write(header_of(reply, d))?;
     let block = block_of(reply, flags);
