@@ -91,7 +91,8 @@ fn block_of(reply: Reply, flags: [u8; 8]) -> Option<[u8; 12]>
     }
 }
 
-// Writes a response, which reads back; the flags are those of a SACK.
+// Writes a response, which reads back; the flags are those of a SACK. Inlined, as `packets::header::write` is and why.
+#[inline(always)]
 pub fn write(reply: Reply, d: Delivery, flags: [u8; 8]) -> Result<ResponseOctets, Refusal>
     ensures { (result ≡ response_given (write_response reply d flags)) × ResponseReadsBack reply d flags (write_response reply d flags) × IfOk result (λ given. ResponseReadsBack reply d flags (written_where given)) }
 {

@@ -178,7 +178,9 @@ fn octets_of(format: u8, c: Common, last: u8) -> [u8; 12]
     os
 }
 
-// Writes a header, which reads back.
+// Writes a header, which reads back. Inlined, since a Result that goes through memory is read there in other pieces than it was written in,
+// which took half as long again.
+#[inline(always)]
 pub fn write(h: Header) -> Result<[u8; 12], Refusal>
     ensures { (result ≡ header_octets_given (write_header h)) × HeaderReadsBack h (write_header h) × IfOk result (λ os. HeaderReadsBack h (record { number = 0; octets = os })) }
 {
