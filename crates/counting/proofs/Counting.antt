@@ -45,11 +45,15 @@ told_refusal (Ok answers.TheVariants.Bad) = refl
 told_refusal (Ok (answers.TheVariants.Message n)) = refl
 told_refusal (Err r) = refl
 
--- what is no refusal has no number
-pub no_number : {E : Type 0} (number : E → ℕ) (x : answers.Answer) → 0 ≡ answer_number (Confirmed (told_by number (Ok x)))
+-- what is no refusal has no number, whatever refusals are told by
+pub no_number_by : {E : Type 0} (number : E → ℕ) (x : answers.Answer) → 0 ≡ answer_number (Confirmed (told_by number (Ok x)))
 unfolding answer_number said event.said number_of
-no_number number answers.TheVariants.Opened = refl
-no_number number answers.TheVariants.Repeat = refl
-no_number number answers.TheVariants.Stored = refl
-no_number number answers.TheVariants.Bad = refl
-no_number number (answers.TheVariants.Message n) = refl
+no_number_by number answers.TheVariants.Opened = refl
+no_number_by number answers.TheVariants.Repeat = refl
+no_number_by number answers.TheVariants.Stored = refl
+no_number_by number answers.TheVariants.Bad = refl
+no_number_by number (answers.TheVariants.Message n) = refl
+
+-- and so as the receiver tells it
+pub no_number : (x : answers.Answer) → 0 ≡ answer_number (Confirmed (event.told (Ok x)))
+no_number x = no_number_by refusal_number x ∙ ap (λ (a : event.Answer). answer_number (Confirmed a)) (told_refusal (Ok x))

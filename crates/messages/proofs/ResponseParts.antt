@@ -58,6 +58,13 @@ pub header_is : (r : Reply) (d : Delivery) (count class kind : ℕ) → count �
 unfolding response_header
 header_is r d count class kind e f g = λ i. with d (e i) (f i) (g i)
 
+-- a header and a block are what is given for what they stand for
+pub given_for : (header : List ℕ) (block : Option (List ℕ))
+    → ◌≡◌ {A = Result ResponseOctets Refusal} (Ok (record { header = header; block = block })) (response_given (written_where (record { header = header; block = block })))
+unfolding response_given outcome blocks_beside block_beside
+given_for header None = refl
+given_for header (Some b) = refl
+
 -- what is given, by what is given for the header
 module _ (r : Reply) (d : Delivery) (flags : List ℕ) where
   pub write_refused : (x : Refusal) → header_octets_given (write_header (response_header r d)) ≡ Err x → Err x ≡ response_given (write_response r d flags)
@@ -68,10 +75,10 @@ module _ (r : Reply) (d : Delivery) (flags : List ℕ) where
       rw (ne_eqb (width_number h) 0 n) (ap Err (sym (err_refusal (width_number h) _ x e) ∙ ap refusal (widths_else h n)))
 
   -- what is given stands for what is written
-  pub write_done : (header : List ℕ) (block : Option (List ℕ)) → header_octets_given (write_header (response_header r d)) ≡ Ok header → block ≡ block_given r flags
+  pub stands_for : (header : List ℕ) (block : Option (List ℕ)) → header_octets_given (write_header (response_header r d)) ≡ Ok header → block ≡ block_given r flags
       → written_where (record { header = header; block = block }) ≡ write_response r d flags
   unfolding header_octets_given write_header write_response outcome block_given reply_code response_data blocks_beside block_beside
-  write_done header block e b =
+  stands_for header block e b =
       let h = response_header r d in
       let z = ok_zero (width_number h) _ header e in
       let o : header ≡ written_header h = sym (ok_same (width_number h) _ header e) ∙ rw z in
@@ -87,12 +94,10 @@ module _ (r : Reply) (d : Delivery) (flags : List ℕ) where
       data_is Nack = refl
       data_is Sack = refl
 
--- and it is what is given for that
-pub given_for : (header : List ℕ) (block : Option (List ℕ))
-    → ◌≡◌ {A = Result ResponseOctets Refusal} (Ok (record { header = header; block = block })) (response_given (written_where (record { header = header; block = block })))
-unfolding response_given outcome blocks_beside block_beside
-given_for header None = refl
-given_for header (Some b) = refl
+  -- and so it is what is given for what is written
+  pub write_done : (header : List ℕ) (block : Option (List ℕ)) → header_octets_given (write_header (response_header r d)) ≡ Ok header → block ≡ block_given r flags
+      → Ok (record { header = header; block = block }) ≡ response_given (write_response r d flags)
+  write_done header block e b = given_for header block ∙ ap response_given (stands_for header block e b)
 
 -- ---- what is answered
 
