@@ -58,7 +58,7 @@ pub header_is : (r : Reply) (d : Delivery) (count class kind : ℕ) → count �
 unfolding response_header
 header_is r d count class kind e f g = λ i. with d (e i) (f i) (g i)
 
--- a header and a block are what is given for what they stand for
+-- a response is what is given for what it stands for
 pub given_for : (header : List ℕ) (block : Option (List ℕ))
     → ◌≡◌ {A = Result ResponseOctets Refusal} (Ok (record { header = header; block = block })) (response_given (written_where (record { header = header; block = block })))
 unfolding response_given outcome blocks_beside block_beside
